@@ -20,7 +20,8 @@ definition of a `..Layout` is cited by a public contract or the promise of a tra
 
 A file that a page written by hand names in backquotes, below one of the usual folders, is there, and so is what a page links to.
 
-What the root file of a library doesn't bring out is `pub(crate)`.
+What the root file of a library doesn't bring out is `pub(crate)`. Clauses that say the same have the same name (gate/settled.py),
+and no two files of a crate's specs/ have a definition of one name.
 
 No crate imports another crate's `proofs` or `specs/..Layout`: the layers compose by contracts, laws and definitions alone. No line of a .rt
 or .antt file is longer than 160 columns, except imports, tables of literals, and the quotation of a test or of a text that is longer.
@@ -35,6 +36,7 @@ from calling import ROOT, calls, is_exported, page, promises, sources
 from defined import definitions_page
 from edits import edits_in
 from heads import above, head, source_of
+from settled import clause_faults, name_faults
 from trusted import believed, engine_statement, reached, statement, trusted
 from typed import LIBRARIES
 
@@ -367,7 +369,7 @@ def main():
         return 1
     bodies = ROOT / "docs/WRONG_BODIES.md"
     made[bodies], missing = named_bodies(bodies.read_text(encoding="utf-8"))
-    faults_of = [number_faults(made), *(it() for it in (source_faults, form_faults, visibility_faults, path_faults, link_faults, definition_faults))]
+    faults_of = [number_faults(made), *(it() for it in (source_faults, form_faults, visibility_faults, path_faults, link_faults, definition_faults, clause_faults, name_faults))]
     for faults in [*itertools.chain.from_iterable(faults_of), [f"docs/WRONG_BODIES.md names {it}, which isn't there" for it in missing]]:
         count += 1
         failures += faults

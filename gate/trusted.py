@@ -88,7 +88,8 @@ def statement(is_quoted):
 
 
 # What rsc_engine promises of a search, and by what its groups are read: the clauses of these functions.
-ENGINE = (("rsc_engine", "first.rt", ("find",)), ("rsc_engine", "iterate.rt", ("new", "next", "into_cache")), ("rsc_engine", "builder.rt", ("new", "range", "class", "literal", "look", "empty", "never", "then", "concat", "one_of", "either", "group", "pattern", "build", "build_with")),
+ENGINE = (("rsc_engine", "first.rt", ("find",)), ("rsc_engine", "iterate.rt", ("new", "next", "into_cache")), ("rsc_engine", "builder.rt", ("new", "range", "class", "literal", "assertion", "empty", "never", "then", "concat", "one_of", "either", "group", "pattern")),
+          ("rsc_engine", "builder/build.rt", ("build", "build_with")),
           ("rsc_engine", "builder/part.rt", ("may_be_empty", "loops_take_bytes")),
           ("rsc_engine", "builder/repeat.rt", tuple(f"{it}{end}" for it in ("optional", "star", "plus", "repeat") for end in ("", "_lazy"))),
           ("rsc_engine", "dfa.rt", ("new", "earliest_end", "is_match", "find", "leftmost_end")), ("rsc_engine", "cache.rt", ("new", "find", "matches")),
@@ -111,7 +112,7 @@ COUNTED = (("`find_part` of `rsc_uses`: where a part first goes in a text", "rsc
            ("`tokens_of_parts` of `rsc_uses`: the tokens of a text", "rsc_uses/src/lexer.rt", "tokens_of_parts"),
            ("`find`: the leftmost-first match", "rsc_engine/src/first.rt", "find"),
            ("`Matches::next`: the next match", "rsc_engine/src/iterate.rt", "next"),
-           ("`Builder::build`: what a program matches", "rsc_engine/src/builder.rt", "build"),
+           ("`Builder::build`: what a program matches", "rsc_engine/src/builder/build.rt", "build"),
            ("`Dfa::earliest_end`: the least end", "rsc_engine/src/dfa.rt", "earliest_end"))
 
 

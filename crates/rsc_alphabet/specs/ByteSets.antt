@@ -17,7 +17,7 @@ members s = filter (λ b. sets.contains s b) bytes
 abbrev pub begins_run : Numbers → ℕ → Bool
 begins_run s b = sets.contains s b && (b == 0 || not (sets.contains s (b - 1)))
 
--- and ends at a member whose successor is no member, or that has none
+-- a run ends at a member whose successor is no member, or that has none
 abbrev pub ends_run : Numbers → ℕ → Bool
 ends_run s b = sets.contains s b && (b == 255 || not (sets.contains s (b + 1)))
 

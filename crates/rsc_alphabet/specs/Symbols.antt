@@ -10,14 +10,17 @@ pub data Symbol : Type 0 where
   byte : ℕ → Symbol
   end_of_input : ℕ → Symbol
 
+-- the byte, if the symbol is one
 abbrev pub byte_of : Symbol → Option ℕ
 byte_of (byte b) = Some b
 byte_of (end_of_input n) = None
 
+-- the number of an end of the input, if the symbol is one
 abbrev pub sentinel_of : Symbol → Option ℕ
 sentinel_of (byte b) = None
 sentinel_of (end_of_input n) = Some n
 
+-- the number of a byte, or of an end of the input
 abbrev pub number_of : Symbol → ℕ
 number_of (byte b) = b
 number_of (end_of_input n) = n

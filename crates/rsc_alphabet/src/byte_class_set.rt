@@ -56,8 +56,8 @@ impl ByteClassSet {
     #[tactic(auto, using(crate::proofs::PartitionsLemmas::no_boundaries))]
     #[inline]
     pub fn empty() -> Self
-        ensures set { result ≡ sets.empty }
-        ensures boundaries { (k : ℕ) → sets.contains result k ≡ false }
+        ensures value { result ≡ sets.empty }
+        ensures members { (k : ℕ) → sets.contains result k ≡ false }
     {
         ByteClassSet {
             ends: ByteSet::empty(),
@@ -69,8 +69,8 @@ impl ByteClassSet {
     #[inline]
     pub fn set_range(&mut self, start: u8, end: u8)
         requires { start ≤ end }
-        ensures set { self.new ≡ sets.union self.old (boundaries_of_range (start, end)) }
-        ensures boundaries { (k : ℕ) →
+        ensures value { self.new ≡ sets.union self.old (boundaries_of_range (start, end)) }
+        ensures members { (k : ℕ) →
             sets.contains self.new k ≡ (sets.contains self.old k || (k + 1 == start || (k == end && nat_lt end 255))) }
     {
         if start > 0 {
@@ -93,8 +93,8 @@ impl ByteClassSet {
     /// assert!(rt; classes.get(b'a') == classes.get(b'b') && classes.get(b'b') != classes.get(b'c'));
     /// ```
     pub fn add_set(&mut self, set: &ByteSet)
-        ensures set { self.new ≡ sets.union self.old (boundaries_of_ranges (runs set.now)) }
-        ensures boundaries { (k : ℕ) → sets.contains self.new k ≡ (sets.contains self.old k || is_boundary_of_set set.now k) }
+        ensures value { self.new ≡ sets.union self.old (boundaries_of_ranges (runs set.now)) }
+        ensures members { (k : ℕ) → sets.contains self.new k ≡ (sets.contains self.old k || is_boundary_of_set set.now k) }
     {
         self.add_boundaries(&set.run_starts(), &set.run_ends());
     }
@@ -114,8 +114,8 @@ impl ByteClassSet {
     /// ```
     #[inline]
     pub fn union(&mut self, other: &ByteClassSet)
-        ensures set { self.new ≡ sets.union self.old other.now }
-        ensures boundaries { (k : ℕ) → sets.contains self.new k ≡ (sets.contains self.old k || sets.contains other.now k) }
+        ensures value { self.new ≡ sets.union self.old other.now }
+        ensures members { (k : ℕ) → sets.contains self.new k ≡ (sets.contains self.old k || sets.contains other.now k) }
     {
         self.ends = self.ends.union(&other.ends);
     }
@@ -133,7 +133,7 @@ impl ByteClassSet {
     ///
     /// Classes are intervals: two bytes that are in the same ranges have different classes if a byte between them isn't.
     pub fn byte_classes(&self) -> ByteClasses
-        ensures map { result ≡ class_map (sets.contains self.now) }
+        ensures value { result ≡ class_map (sets.contains self.now) }
         ensures below { (k : ℕ) → sets.contains self.now k ≡ true → k < 255 }
         ensures bounded { LastClassIsGreatest result }
     {
@@ -161,7 +161,7 @@ impl ByteClassSet {
 /// ```
 pub fn classes_of_ranges(ranges: &[(u8, u8)]) -> ByteClasses
     requires { All (λ r. r.0 ≤ r.1) ranges.now }
-    ensures counts { result ≡ class_map (has_boundary ranges.now) }
+    ensures value { result ≡ class_map (has_boundary ranges.now) }
     ensures alike { (b c : ℕ) → b < 256 → c < 256 →
         (slice_index result b ≡ slice_index result c) ↔ IsTrue (are_alike ranges.now b c) }
     ensures bounded { LastClassIsGreatest result }

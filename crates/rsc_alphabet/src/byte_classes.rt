@@ -65,7 +65,7 @@ impl ByteClasses {
 
     /// The map that gives each byte a class of its own, which is its number.
     pub fn singletons() -> ByteClasses
-        ensures list { result ≡ bytes }
+        ensures value { result ≡ bytes }
         ensures own { (b : ℕ) → b < 256 → slice_index result b ≡ b }
         ensures bounded { LastClassIsGreatest result }
     {
@@ -173,7 +173,7 @@ impl ByteClasses {
     #[tactic(auto, using(crate::proofs::IteratorsLemmas::symbols_left_all, crate::proofs::IteratorsLemmas::symbols_within, crate::proofs::IteratorsLemmas::length_symbols))]
     #[inline]
     pub fn iter(&self) -> ByteClassIter<'_>
-        ensures list { result ≡ symbols self.now }
+        ensures value { result ≡ symbols self.now }
         ensures within { All (λ u. number_of u < symbol_count self.now) result }
         ensures most { length result ≤ 257 }
     {
@@ -198,7 +198,7 @@ impl ByteClasses {
     /// ```
     #[inline]
     pub fn elements(&self, class: Unit) -> ByteClassElements<'_>
-        ensures list { result ≡ elements_of self.now class }
+        ensures value { result ≡ elements_of self.now class }
         ensures class { IsSome (byte_of class) → All (λ u. class_at self.now u ≡ number_of class) result }
         ensures most { length result ≤ 256 }
     {
@@ -225,7 +225,7 @@ impl ByteClasses {
     /// ```
     #[tactic(auto, using(crate::proofs::IteratorsLemmas::representatives_within, crate::proofs::IteratorsLemmas::length_representatives))]
     pub fn representatives(&self, start: Bound<u8>, end: Bound<u8>) -> ByteClassRepresentatives<'_>
-        ensures list { result ≡ representatives_of self.now start end }
+        ensures value { result ≡ representatives_of self.now start end }
         ensures within { ((b : ℕ) → b < 256 → slice_index self.now b ≤ slice_index self.now 255) →
             All (λ u. class_at self.now u < symbol_count self.now) result }
         ensures most { length result ≤ 257 }
@@ -239,7 +239,7 @@ impl ByteClasses {
         start: Bound<u8>,
         end: Bound<u8>,
     ) -> ByteClassRepresentatives<'_>
-        ensures list { result ≡ representatives_of self.now start end }
+        ensures value { result ≡ representatives_of self.now start end }
         ensures fits { end_index end 256 ≤ 256 }
     {
         let first = match start {

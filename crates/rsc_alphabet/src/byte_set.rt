@@ -100,7 +100,7 @@ impl ByteSet {
     #[tactic(auto, using(crate::proofs::ByteSetLayoutLemmas::masked_none, crate::proofs::ByteSetLayoutLemmas::contains_masked, crate::proofs::ByteSetLayoutLemmas::bit_at_zero, std::proofs::lemmas::Bool::Decides::nat_tests))]
     #[inline]
     pub fn empty() -> Self
-        ensures set { result ≡ sets.empty }
+        ensures value { result ≡ sets.empty }
         ensures members { (b : ℕ) → sets.contains result b ≡ false }
     {
         ByteSet { low: 0, high: 0 }
@@ -109,7 +109,7 @@ impl ByteSet {
     /// Makes a byte a member.
     #[inline]
     pub fn add(&mut self, byte: u8)
-        ensures set { self.new ≡ sets.insert self.old byte }
+        ensures value { self.new ≡ sets.insert self.old byte }
         ensures members { (b : ℕ) → sets.contains self.new b ≡ (b == byte || sets.contains self.old b) }
     {
         if byte < 128 {
@@ -122,7 +122,7 @@ impl ByteSet {
     /// Makes a byte no member.
     #[inline]
     pub fn remove(&mut self, byte: u8)
-        ensures set { self.new ≡ sets.remove self.old byte }
+        ensures value { self.new ≡ sets.remove self.old byte }
         ensures members { (b : ℕ) → sets.contains self.new b ≡ (not (b == byte) && sets.contains self.old b) }
     {
         if byte < 128 {
@@ -168,7 +168,7 @@ impl ByteSet {
     #[tactic(auto, using(crate::proofs::ByteSetsLemmas::members_contained, crate::proofs::IteratorsLemmas::length_filter_range))]
     #[inline]
     pub fn iter(&self) -> ByteSetIter<'_>
-        ensures list { result ≡ members self.now }
+        ensures value { result ≡ members self.now }
         ensures contained { All (λ b. sets.contains self.now b ≡ true) result }
         ensures most { length result ≤ 256 }
     {
@@ -194,7 +194,7 @@ impl ByteSet {
     /// ```
     #[inline]
     pub fn iter_ranges(&self) -> ByteSetRangeIter<'_>
-        ensures list { result ≡ runs self.now }
+        ensures value { result ≡ runs self.now }
         ensures ordered { All (λ r. r.0 ≤ r.1) result }
     {
         ByteSetRangeIter {
@@ -207,7 +207,7 @@ impl ByteSet {
     // How many members are below a byte.
     #[inline]
     pub(crate) fn count_below(&self, byte: u8) -> u8
-        ensures count { result ≡ class_of (sets.contains self.now) byte }
+        ensures value { result ≡ class_of (sets.contains self.now) byte }
         ensures bytes { (b : ℕ) → sets.contains self.now b ≡ true → b < 256 }
     {
         if byte < 128 {

@@ -173,7 +173,7 @@ pub(crate) fn block_shifted_right(block: u64, bits: u8) -> u64
 #[inline(always)]
 pub(crate) fn ones_below(mask: u128, bit: u8) -> u8
     requires { bit < 128 }
-    ensures count { result ≡ class_of (has_bit mask) bit }
+    ensures value { result ≡ class_of (has_bit mask) bit }
     ensures most { result ≤ bit }
 {
     (mask & ((1 << bit) - 1)).count_ones() as u8
@@ -183,7 +183,7 @@ pub(crate) fn ones_below(mask: u128, bit: u8) -> u8
 #[tactic(auto, using(crate::proofs::ByteSetLayoutLemmas::ones_all))]
 #[inline(always)]
 pub(crate) fn ones(mask: u128) -> u8
-    ensures count { result ≡ class_of (has_bit mask) 128 }
+    ensures value { result ≡ class_of (has_bit mask) 128 }
     ensures most { result ≤ 128 }
 {
     mask.count_ones() as u8

@@ -25,8 +25,8 @@ pub fn make(alloc: Global, name: &str) -> Result<Program<UnicodeWord>, Error> {
 fn words(alloc: Global) -> Result<Program<UnicodeWord>, Error> {
     let builder = Builder::new(alloc);
     let name = capitalized(&builder)?;
-    let name = builder.then(builder.look(Look::WordUnicode), name)?;
-    let whole = builder.then(name, builder.look(Look::WordUnicode))?;
+    let name = builder.then(builder.assertion(Look::WordUnicode), name)?;
+    let whole = builder.then(name, builder.assertion(Look::WordUnicode))?;
     builder.build(UnicodeWord, true, whole)
 }
 
@@ -74,7 +74,7 @@ fn lines(alloc: Global) -> Result<Program<UnicodeWord>, Error> {
     let builder = Builder::new(alloc);
     let first = named(&builder, Some("first"))?;
     let first = builder.optional(first)?;
-    let first = builder.then(builder.look(Look::StartLF), first)?;
+    let first = builder.then(builder.assertion(Look::StartLF), first)?;
     let rest = rest_of_line(&builder)?;
     let whole = builder.then(first, rest)?;
     builder.build(UnicodeWord, true, whole)
@@ -84,7 +84,7 @@ fn lines(alloc: Global) -> Result<Program<UnicodeWord>, Error> {
 fn rest_of_line(builder: &Builder<'static>) -> Result<Part<'static>, Error> {
     let rest = builder.class(&NO_LINE_FEED)?;
     let rest = builder.star(rest)?;
-    builder.then(rest, builder.look(Look::EndLF))
+    builder.then(rest, builder.assertion(Look::EndLF))
 }
 
 // `(?:[A-Z]|=)*`, whose matches are mostly empty

@@ -6,6 +6,7 @@ use Rattle.rsc_search.specs.declared.span.Span.{Span}
 use Rattle.rsc_search.specs.Matches.{Matched}
 use Rattle.rsc_captures.specs.Groups.{GroupLists, groups_of, group_count, slot_of, index_of}
 
+-- what a contract sees of captures: the pattern that matched, if there is one, and an offset for each slot that is set
 pub record Captured : Type 0 where
   pub groups : GroupLists
   pub pattern : Option ℕ

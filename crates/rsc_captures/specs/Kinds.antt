@@ -7,6 +7,7 @@ use Rattle.rsc_captures.specs.declared.error.GroupInfoErrorKind.{GroupInfoErrorK
 use Rattle.rsc_captures.specs.declared.error.GroupInfoErrorKind.TheVariants as kind
 use Rattle.rsc_captures.specs.Faults.{Fault, TooManyPatterns, MissingGroups, FirstMustBeUnnamed, TooManyGroups, Duplicate}
 
+-- the fault that the kind of an error stands for; none for out of memory
 abbrev pub fault_of : {A : Type 0} → GroupInfoErrorKind A → Option Fault
 fault_of (kind.TooManyPatterns attempted) = Some (TooManyPatterns attempted)
 fault_of (kind.TooManyGroups p minimum) = Some (TooManyGroups p minimum)
@@ -28,6 +29,7 @@ fault_text (FirstMustBeUnnamed p) =
 fault_text (Duplicate p name) =
     codes "duplicate capture group name '" ++ (name ++ (codes "' found for pattern " ++ decimal p))
 
+-- what an error displays
 abbrev pub refusal_text : Option Fault → List ℕ
 refusal_text (Some fault) = fault_text fault
 refusal_text None = codes "out of memory while building capture info"

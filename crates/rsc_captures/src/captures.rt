@@ -223,7 +223,7 @@ impl<A: Allocator + Clone + Drop> Captures<A> {
         ensures done { IsTrue result ↔ (IsTrue (is_some (slot_here self.old index)) × ForSome span FitsSlots) }
         ensures written { IsTrue result →
             ForSome (slot_here self.old index) (λ slot. self.new ≡ record self.old { offsets = with_span self.old.offsets slot span }) }
-        ensures refused { ¬ (IsTrue result) → self.new ≡ self.old }
+        ensures kept { ¬ (IsTrue result) → self.new ≡ self.old }
         ensures span { IsTrue result → group_span self.new index ≡ span }
         ensures others { (other : ℕ) → ¬ (other ≡ index) → group_span self.new other ≡ group_span self.old other }
     {
@@ -237,7 +237,7 @@ impl<A: Allocator + Clone + Drop> Captures<A> {
         ensures done { IsTrue result ↔ (IsTrue (is_some (slot_here self.old index)) × ForSome span FitsSlots) }
         ensures written { IsTrue result →
             ForSome (slot_here self.old index) (λ slot. self.new ≡ record self.old { offsets = with_span self.old.offsets slot span }) }
-        ensures refused { ¬ (IsTrue result) → self.new ≡ self.old }
+        ensures kept { ¬ (IsTrue result) → self.new ≡ self.old }
     {
         match self.pairs.slot(index) {
             None => false,
@@ -280,7 +280,7 @@ impl<A: Allocator + Clone + Drop> Captures<A> {
     /// the slots of group i are 2i and 2i + 1, whichever pattern is set; else they are those of the pattern that matched.
     #[inline]
     pub fn get_group(&self, index: usize) -> Option<Span>
-        ensures span { result ≡ group_span self.now index }
+        ensures value { result ≡ group_span self.now index }
         ensures alone { length self.now.groups ≡ 1 → self.now.pattern ≡ Some 0 →
             result ≡ option_and_then (λ slots. span_at self.now.offsets slots.0) (slots_of self.now.groups 0 index) }
     {
@@ -291,7 +291,7 @@ impl<A: Allocator + Clone + Drop> Captures<A> {
     #[tactic(auto, using(crate::proofs::PairsLayoutLemmas::span_here, crate::proofs::PairsLayoutLemmas::here))]
     #[inline]
     fn group_span(&self, index: usize) -> Option<Span>
-        ensures span { result ≡ group_span self.now index }
+        ensures value { result ≡ group_span self.now index }
         ensures room { length self.now.offsets ≤ 2 * all_groups self.now.groups }
     {
         let slots = self.slots.as_slice();
@@ -313,7 +313,7 @@ impl<A: Allocator + Clone + Drop> Captures<A> {
     #[tactic(auto, using(crate::proofs::CapturedLemmas::spans_counted))]
     #[inline]
     pub fn iter(&self) -> CapturesPatternIter<'_, A>
-        ensures spans { result ≡ matched_spans self.now }
+        ensures value { result ≡ matched_spans self.now }
         ensures count { length result ≡ matched_groups self.now }
     {
         CapturesPatternIter {

@@ -52,7 +52,7 @@ fn check_pattern<A: Allocator>(
 ) -> Result<PatternID, GroupInfoError<A>>
     requires { p < length lists.now }
     ensures ok { IfOk result (λ pattern. (pattern ≡ p) × (pattern_fault (lists_in lists.now) p ≡ None) × (0 < group_count (lists_in lists.now) p)) }
-    ensures err { IfErr result (λ e. MatchOption e ⊥ (λ fault. pattern_fault (lists_in lists.now) p ≡ Some fault)) }
+    ensures refused { IfErr result (λ e. MatchOption e ⊥ (λ fault. pattern_fault (lists_in lists.now) p ≡ Some fault)) }
 {
     let pattern = match PatternID::new(p) {
         Ok(pattern) => pattern,

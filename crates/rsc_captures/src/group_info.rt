@@ -155,9 +155,9 @@ impl<A: Allocator + Clone + Drop> GroupInfo<A> {
     #[tactic(auto, using(crate::proofs::NameIteratorsLemmas::names_counted))]
     #[inline]
     pub fn all_names(&self) -> GroupInfoAllNames<'_, A>
-        ensures groups { result ≡ all_names_of self.now }
+        ensures value { result ≡ all_names_of self.now }
         ensures count { length result ≡ all_groups self.now }
-        ensures limit { 2 * length result ≤ max_index }
+        ensures most { 2 * length result ≤ max_index }
     {
         GroupInfoAllNames::new(self.lists())
     }
@@ -179,7 +179,7 @@ impl<A: Allocator + Clone + Drop> GroupInfo<A> {
     #[inline]
     pub fn pattern_len(&self) -> usize
         ensures value { result ≡ length self.now }
-        ensures indices { result ≤ max_index + 1 }
+        ensures most { result ≤ max_index + 1 }
     {
         self.lists().len()
     }
@@ -205,7 +205,7 @@ impl<A: Allocator + Clone + Drop> GroupInfo<A> {
     /// The group of a pattern that has the name, or `None` where no group has it. Names are local to each pattern.
     #[inline]
     pub fn to_index(&self, pid: PatternID, name: &str) -> Option<usize>
-        ensures index { result ≡ index_of (groups_of self.now pid) name.now }
+        ensures value { result ≡ index_of (groups_of self.now pid) name.now }
         ensures named { (g : ℕ) → (result ≡ Some g) ↔ (name_of self.now pid g ≡ Some name.now) }
         ensures within { IfSome result (λ g. g < group_count self.now pid) }
     {
@@ -236,7 +236,7 @@ impl<A: Allocator + Clone + Drop> GroupInfo<A> {
     #[inline]
     pub fn slot_len(&self) -> usize
         ensures value { result ≡ 2 * all_groups self.now }
-        ensures limit { result ≤ max_index }
+        ensures most { result ≤ max_index }
         ensures owned { (s : ℕ) → s < result → IsOwned self.now s }
         ensures once { (s p g q h : ℕ) → IsSlotOf self.now p g s → IsSlotOf self.now q h s → (p ≡ q) × (g ≡ h) }
     {
@@ -288,7 +288,7 @@ fn build<A: Allocator + Clone + Drop>(
     requires { HasNoOtherFault max_index (lists_in lists.now) }
     ensures ok { IfOk result (λ info. info ≡ lists_in lists.now) }
     ensures distinct { OnOk result (HasNoRepeatBefore (lists_in lists.now) (length lists.now) 0) }
-    ensures err { IfErr result (λ e. MatchOption e ⊤ (IsFirstRepeatBefore (lists_in lists.now) (length lists.now) 0)) }
+    ensures refused { IfErr result (λ e. MatchOption e ⊤ (IsFirstRepeatBefore (lists_in lists.now) (length lists.now) 0)) }
 {
     let names = NameList::new(alloc.clone()?, lists)?;
     let order = order_of(alloc.clone()?, lists, names.len())?;
@@ -314,7 +314,7 @@ fn order_of<A: Allocator + Clone + Drop>(
     requires { HasNoOtherFault max_index (lists_in lists.now) }
     ensures ok { IfOk result (λ order. AreOrdered order.items (lists_in lists.now) (length lists.now)) }
     ensures distinct { OnOk result (HasNoRepeatBefore (lists_in lists.now) (length lists.now) 0) }
-    ensures err { IfErr result (λ e. MatchOption e ⊤ (IsFirstRepeatBefore (lists_in lists.now) (length lists.now) 0)) }
+    ensures refused { IfErr result (λ e. MatchOption e ⊤ (IsFirstRepeatBefore (lists_in lists.now) (length lists.now) 0)) }
 {
     let mut order: Vec<u32, A> = Vec::with_capacity(alloc.clone()?, len)?;
     for p in 0..lists.len() {

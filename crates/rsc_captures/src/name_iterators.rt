@@ -83,7 +83,7 @@ impl<'a, A: Allocator + Clone + Drop> Iterator for GroupInfoPatternNames<'a, A> 
     fn size_hint(&self) -> (usize, Option<usize>)
         ensures lower { IsWithinCount result.0 (item_count (λ rest. rest) self.now) }
         ensures upper { IfSome result.1 (UpTo (item_count (λ rest. rest) self.now)) }
-        ensures exact { result ≡ (length self.now, Some (length self.now)) }
+        ensures value { result ≡ (length self.now, Some (length self.now)) }
     {
         let left = self.len();
         (left, Some(left))
@@ -118,7 +118,7 @@ impl<'a, A: Allocator> Model for GroupInfoAllNames<'a, A> {
 impl<'a, A: Allocator + Clone + Drop> GroupInfoAllNames<'a, A> {
     #[inline]
     pub(crate) fn new(lists: &'a SharedLists<A>) -> GroupInfoAllNames<'a, A>
-        ensures groups { result ≡ all_names_of lists.now }
+        ensures value { result ≡ all_names_of lists.now }
         ensures faultless { IsFaultless max_index lists.now }
     {
         GroupInfoAllNames {

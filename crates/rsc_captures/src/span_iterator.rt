@@ -60,7 +60,7 @@ impl<'a, A: Allocator + Clone + Drop> Iterator for CapturesPatternIter<'a, A> {
     fn size_hint(&self) -> (usize, Option<usize>)
         ensures lower { IsWithinCount result.0 (item_count (λ rest. rest) self.now) }
         ensures upper { IfSome result.1 (UpTo (item_count (λ rest. rest) self.now)) }
-        ensures exact { result ≡ (length self.now, Some (length self.now)) }
+        ensures value { result ≡ (length self.now, Some (length self.now)) }
     {
         let left = self.len();
         (left, Some(left))

@@ -8,7 +8,7 @@ use Rattle.rsc_nfa.specs.declared.state.State.TheVariants.{ByteRange, Assert, Fo
 use Rattle.rsc_engine.specs.Searches.{Search}
 use Rattle.rsc_engine.specs.Runs.{Leads, IsPlace, accepts}
 use Rattle.rsc_engine.specs.Preferred.{IsPreferred}
-use Rattle.rsc_engine.specs.DecidesLayout.{IsOpenMatch, IsHopeless, IsBest, IsMore, unseen}
+use Rattle.rsc_engine.specs.DecidesLayout.{IsUnseenMatch, IsHopeless, IsBest, IsMore, unseen}
 use Rattle.rsc_engine.specs.PassesLayout.{IsNoFork}
 use Rattle.rsc_engine.specs.ArrivalsLayout.{ArrivesOver}
 use Rattle.rsc_engine.specs.BackwardLayout.{Lists}
@@ -33,7 +33,7 @@ way-more front i trail s run =
 pub best-match : (e : Search) (i : ℕ) (seen : ℕ → Bool) (s : ℕ) → seen s ≡ false → IsPlace e (s, i) → accepts e (s, i) ≡ true
     → IsBest e i seen s ((s, i) ∷ [])
 best-match e i seen s fresh there accepted = record {
-  is_open = record { is_match = match-one e (s, i) there accepted; avoids = avoids-one i seen (s, i) fresh };
+  is_unseen = record { is_match = match-one e (s, i) there accepted; avoids = avoids-one i seen (s, i) fresh };
   once = λ j k l h. absurd (omega (arith, l, h));
   first = λ other m once b. absurd (omega (arith, b.other_within));
 }
@@ -132,7 +132,7 @@ module _ (e : Search) (from i : ℕ) (front : List (ℕ × ℕ)) where
       below : IsHopeless e i seen s → DecidesAlong e from i after front (take (length deeper) deeper) rest
       below none = subst (λ (l : List ℕ). DecidesAlong e from i after front l rest) (sym whole) (longer after trail (s ∷ []) rest (along-off none))
 
-      -- one in place of which another may be gone on from passes on to it
+      -- one, instead of which another may be gone on from, passes on to it
       pub along-single : (t : ℕ) → IsInPlace e i s t → DecidesAlong e from i after front deeper ((t, length deeper) ∷ rest)
       along-single t p = (omega arith, λ run best. on run (p.best seen after g fresh run best), λ none. below (p.none seen after g none))
 
@@ -255,11 +255,11 @@ byte-hopeless e i s first last next list lists none there is =
 abbrev HasNoBest : Search → ℕ → (ℕ → Bool) → ℕ → Type 0
 HasNoBest e i seen s = (run : List (ℕ × ℕ)) → ¬ (IsBest e i seen s run)
 
-open-there : (e : Search) (i : ℕ) (seen : ℕ → Bool) (s : ℕ) (run : List (ℕ × ℕ)) → IsOpenMatch e i seen s run → IsPlace e (s, i)
-open-there e i seen s run m = subst (λ (q : ℕ × ℕ). IsPlace e q) m.is_match.begins (m.is_match.is_run.places 0 m.is_match.some)
+unseen-there : (e : Search) (i : ℕ) (seen : ℕ → Bool) (s : ℕ) (run : List (ℕ × ℕ)) → IsUnseenMatch e i seen s run → IsPlace e (s, i)
+unseen-there e i seen s run m = subst (λ (q : ℕ × ℕ). IsPlace e q) m.is_match.begins (m.is_match.is_run.places 0 m.is_match.some)
 
-open-fresh : (e : Search) (i : ℕ) (seen : ℕ → Bool) (s : ℕ) (run : List (ℕ × ℕ)) → IsOpenMatch e i seen s run → seen s ≡ false
-open-fresh e i seen s run m =
+unseen-fresh : (e : Search) (i : ℕ) (seen : ℕ → Bool) (s : ℕ) (run : List (ℕ × ℕ)) → IsUnseenMatch e i seen s run → seen s ≡ false
+unseen-fresh e i seen s run m =
     sym (ap (λ (q : ℕ × ℕ). seen q.0) m.is_match.begins) ∙ m.avoids 0 m.is_match.some (ap (λ (q : ℕ × ℕ). q.1) m.is_match.begins)
 
 module _ (e : Search) (i : ℕ) (later : (t : ℕ) → HasNoBest e (i + 1) unseen t → IsHopeless e (i + 1) unseen t) where
@@ -297,16 +297,16 @@ module _ (e : Search) (i : ℕ) (later : (t : ℕ) → HasNoBest e (i + 1) unsee
   none-here zero s seen few none run m = absurd (omega (
     arith,
     few,
-    left-fewer (length e.states) s seen (mark seen s) (marks seen s) (open-fresh e i seen s run m) (open-there e i seen s run m).0,
+    left-fewer (length e.states) s seen (mark seen s) (marks seen s) (unseen-fresh e i seen s run m) (unseen-there e i seen s run m).0,
   ))
   none-here (suc n) s seen few none run m =
-      let fresh = open-fresh e i seen s run m in
-      let there = open-there e i seen s run m in
+      let fresh = unseen-fresh e i seen s run m in
+      let there = unseen-there e i seen s run m in
       let fewer = left-fewer (length e.states) s seen (mark seen s) (marks seen s) fresh there.0 in
       none-step s seen (mark seen s) (marks seen s) fresh there (λ t x. none-here n t (mark seen s) (omega (arith, few, fewer)) x) none run m
 
 none-from : (e : Search) (d i s : ℕ) → e.end < i + d → HasNoBest e i unseen s → IsHopeless e i unseen s
-none-from e zero i s past none run m = omega (arith, past, (open-there e i unseen s run m).2)
+none-from e zero i s past none run m = omega (arith, past, (unseen-there e i unseen s run m).2)
 none-from e (suc d) i s past none run m =
     none-here e i (λ t x. none-from e d (i + 1) t (omega (arith, past)) x) (left_of (length e.states) unseen) s unseen (omega arith) none run m
 

@@ -15,7 +15,7 @@ use Rattle.rsc_engine.specs.DecidesLayout.{last_of, IsBest, IsMore, unseen}
 use Rattle.rsc_engine.specs.declared.dfa.ordered.Way.TheVariants.{Stuck, One, Over, Two, Match}
 use Rattle.rsc_engine.specs.GroupsLayout.{AreEmpty}
 use Rattle.rsc_engine.specs.Preferred.{IsPreferred, IsFirstMatch}
-use Rattle.rsc_engine.specs.ForwardLayout.{up_to}
+use Rattle.rsc_engine.specs.ForwardLayout.{search_up_to}
 use Rattle.rsc_engine.specs.ArrivalsLayout.{Arrives, ArrivesOver}
 use Rattle.rsc_engine.specs.BackwardLayout.{IsStartOf, Lists}
 use Rattle.rsc_engine.specs.AlongLayout.{GoesTo, IsRecorded, AreRecordsTo, IsLed, AreBelow, IsWayAlong, all_at, DecidesAlong}
@@ -177,7 +177,7 @@ passing-first {e} {n} {i} {stamp} {sid} {list} {slots} {seen} len below there = 
     -- it's no matter how it is said that nothing was seen
     decides-unseen : (run : List (ℕ × ℕ)) → IsBest e i (seen_at stamp seen) sid run → IsBest e i unseen sid run
     decides-unseen run b = record {
-      is_open = record { is_match = b.is_open.is_match; avoids = λ k l h. refl };
+      is_unseen = record { is_match = b.is_unseen.is_match; avoids = λ k l h. refl };
       once = b.once;
       first = λ other m once. b.first other (record { is_match = m.is_match; avoids = λ k l h. none_seen (place other k).0 }) once;
     }
@@ -373,7 +373,7 @@ led-first e from slots empty a = record {
   front = [];
   arrives = a;
   best = λ run b. record {
-    is_match = b.is_open.is_match;
+    is_match = b.is_unseen.is_match;
     once = b.once;
     first = λ other m once. b.first other (record { is_match = m; avoids = λ k l h. refl }) once;
   };
@@ -401,16 +401,16 @@ start-within e p from j x = omega (
 )
 
 -- in the part of the span up to its end its run is the preferred one
-abbrev pub goes-to : (e : Search) (p from j : ℕ) → IsStartOf e p j from → GoesTo (up_to e j) from p j
+abbrev pub goes-to : (e : Search) (p from j : ℕ) → IsStartOf e p j from → GoesTo (search_up_to e j) from p j
 goes-to e p from j x = record {
   run = x.run;
-  preferred = subst (λ (n : ℕ). IsPreferred (up_to e j) (e.start_state, n) x.run) (ap (λ (q : ℕ × ℕ). q.1) x.begins)
+  preferred = subst (λ (n : ℕ). IsPreferred (search_up_to e j) (e.start_state, n) x.run) (ap (λ (q : ℕ × ℕ). q.1) x.begins)
       (first-down e j x.run (omega (arith, x.end)) (start-within e p from j x) x.is_first).preferred;
   pattern = x.pattern;
   end = x.end;
 }
 
-pub start-arrives : (e : Search) (p from j : ℕ) → IsStartOf e p j from → Arrives (up_to e j) e.start_state from
+pub start-arrives : (e : Search) (p from j : ℕ) → IsStartOf e p j from → Arrives (search_up_to e j) e.start_state from
 start-arrives e p from j x = record { run = x.run; is_match = (goes-to e p from j x).preferred.is_match }
 
 -- the match that is sought, with what its run records
@@ -438,9 +438,9 @@ goes-within e from p j x = omega (
 )
 
 -- the pass along records what it does
-pub along-records : (e : Search) (p from j q k : ℕ) (x : IsStartOf e p j from) (slots : List (Option ℕ)) → IsRecorded (up_to e j) from q k slots
+pub along-records : (e : Search) (p from j q k : ℕ) (x : IsStartOf e p j from) (slots : List (Option ℕ)) → IsRecorded (search_up_to e j) from q k slots
     → AreRecords e x.run slots
 along-records e p from j q k x slots r =
     let same : r.goes.run ≡ x.run =
-    one_preferred (up_to e j) (e.start_state, from) r.goes.run x.run r.goes.preferred (goes-to e p from j x).preferred in
+    one_preferred (search_up_to e j) (e.start_state, from) r.goes.run x.run r.goes.preferred (goes-to e p from j x).preferred in
     subst (λ (run : List (ℕ × ℕ)). AreRecords e run slots) same r.records

@@ -11,8 +11,8 @@ use Rattle.rsc_engine.specs.Preferred.{IsLeftmostFirst}
 use Rattle.rsc_engine.specs.DecidesLayout.{last_of}
 use Rattle.rsc_engine.specs.LawfulLayout.{Lawful}
 use Rattle.rsc_engine.specs.OrderedLayout.{IsEndOf}
-use Rattle.rsc_engine.specs.RowsLayout.{IsMarked, machine_of, Follows, Moves}
-use Rattle.rsc_engine.specs.ForwardLayout.{beside, up_to}
+use Rattle.rsc_engine.specs.RowsLayout.{IsMarked, machine_of, Stays, Moves}
+use Rattle.rsc_engine.specs.ForwardLayout.{beside, search_up_to}
 use Rattle.rsc_engine.specs.ArrivalsLayout.{Arrives, ArrivesOver, ArrivesAtOnce, here, over, LeadsBack, seed, back}
 use Rattle.rsc_engine.specs.BackwardLayout.{IsStartOf, Lists, IsSeed, IsClosedBack, IsSource, IsRetreated, IsBegun, AreBefore, least_with, IsLeastFrom}
 use Rattle.rsc_engine.proofs.RunsLemmas.{step-within, match-wider}
@@ -114,7 +114,7 @@ module _ (e : Search) (i least : ℕ) (list : List ℕ) (begins : Bool) (next : 
 -- ---- a step beside a small haystack
 
 module _ (e : Search) (i : ℕ) (mode : Anchored) (near : List ℕ) (at : ℕ)
-    (follows : (s u : ℕ) → IsStep e.states e.terminator e.word_chars e.haystack e.end (s, i) (u, i) ↔ Follows (machine_of e) near at s u)
+    (follows : (s u : ℕ) → IsStep e.states e.terminator e.word_chars e.haystack e.end (s, i) (u, i) ↔ Stays (machine_of e) near at s u)
     (low : e.start ≤ i) (high : i ≤ e.end) (least : at ≤ length near) where
   abbrev pub small : Search
   small = beside (machine_of e) mode near
@@ -228,7 +228,7 @@ module _ (e : Search) (run : List (ℕ × ℕ)) (f : IsLeftmostFirst e run) (end
 -- ---- the part of a span up to a match's end
 
 -- it is the leftmost-first match there too
-pub first-down : (e : Search) (t : ℕ) (run : List (ℕ × ℕ)) → (last_of run).1 ≤ t → t ≤ e.end → IsLeftmostFirst e run → IsLeftmostFirst (up_to e t) run
+pub first-down : (e : Search) (t : ℕ) (run : List (ℕ × ℕ)) → (last_of run).1 ≤ t → t ≤ e.end → IsLeftmostFirst e run → IsLeftmostFirst (search_up_to e t) run
 first-down e t run high within f = record {
   begins = record {
     start = f.begins.start;
@@ -253,8 +253,8 @@ first-down e t run high within f = record {
   leftmost = λ at low l other m. f.leftmost at low l other (wider (e.start_state, at) other m);
 }
   where
-    wider : (from : ℕ × ℕ) (other : List (ℕ × ℕ)) → IsMatchRun (up_to e t) from other → IsMatchRun e from other
+    wider : (from : ℕ × ℕ) (other : List (ℕ × ℕ)) → IsMatchRun (search_up_to e t) from other → IsMatchRun e from other
     wider from other m = match-wider e e.start t from other (omega arith) within m
 
-    down : IsMatchRun (up_to e t) (e.start_state, (place run 0).1) run
+    down : IsMatchRun (search_up_to e t) (e.start_state, (place run 0).1) run
     down = match-down e t (e.start_state, (place run 0).1) run high f.preferred.is_match

@@ -12,8 +12,8 @@ use Rattle.rsc_engine.specs.EnclosesLayout.{Encloses}
 use Rattle.rsc_engine.specs.LinksLayout.{Aim, Ends, Realizes, Adds, Builds, IsAdded}
 use Rattle.std.proofs.Math.Seq.{drop-length}
 use Rattle.rsc_captures.specs.Groups.{GroupLists, all_groups, slot_number}
-use Rattle.rsc_engine.specs.Features.{Feature, has_feature, some_has}
-use Rattle.rsc_engine.specs.NamesLayout.{Names, AreSoundIn}
+use Rattle.rsc_look.specs.declared.assertion.Look.{Look}
+use Rattle.rsc_engine.specs.NamesLayout.{asked_by, some_ask, Names, AreSoundIn}
 use Rattle.rsc_engine.proofs.NamesLayoutLemmas.{Names-alike, AreSound-pattern, AreSound-alike, AreSound-more, or_none}
 use Rattle.rsc_engine.specs.BeginsLayout.{Begins, IsOfOne, IsOfSome}
 use Rattle.rsc_engine.specs.FirstsLayout.{OrdersOne, OrdersSome}
@@ -21,7 +21,7 @@ use Rattle.rsc_engine.proofs.FirstsLayoutLemmas.{OrdersOne-is, OrdersSome-last, 
 use Rattle.rsc_engine.specs.ByWaysLayout.{ByWays}
 use Rattle.rsc_engine.specs.TakesLayout.{TakesCourse}
 use Rattle.rsc_engine.specs.GroupNumbers.{numbered}
-use Rattle.rsc_engine.proofs.GroupNumbersLemmas.{numbered-goes, numbered-features}
+use Rattle.rsc_engine.proofs.GroupNumbersLemmas.{numbered-goes, numbered-asks}
 use Rattle.rsc_engine.proofs.LinksLayoutLemmas.{Realizes-is, Realizes-between, Realizes-capture, may_accept, choice_first, choice_next}
 use Rattle.rsc_engine.proofs.ByWaysLayoutLemmas.{ByWays-group}
 use Rattle.rsc_engine.proofs.StepsLayoutLemmas.{step_of}
@@ -86,7 +86,7 @@ Begins-one states slot_of number low high accept after body first p w r o = reco
 -- a pattern, with its number, begins at a state; and if its number is one of these groups' patterns, its states name what is there
 abbrev OneBegins : GroupLists → List State → List State → ℕ → ℕ → Pattern → List State → Type 0
 OneBegins groups old new first n p states =
-    Begins states first (IsOfOne n p) × (n < length groups → AreSoundIn groups (has_feature p) old new first states)
+    Begins states first (IsOfOne n p) × (n < length groups → AreSoundIn groups (asked_by p) old new first states)
     × OrdersOne states (slot_number groups n) (length new) first n p
 
 pub Adds-pattern : (groups : GroupLists) (old middle later last new : List State) (accept number after start end body first index : ℕ) (p : Pattern)
@@ -94,7 +94,7 @@ pub Adds-pattern : (groups : GroupLists) (old middle later last new : List State
     → IsAdded old middle (Accept number) accept → IsAdded middle later (Capture end accept) after
     → Builds (end, 2 * all_groups groups) later last body after (numbered (slot_number groups index) 1 p) → IsAdded last new (Capture start body) first
     → Adds old new (λ (states : List State). Begins states first (IsOfOne index p)
-    × (index < length groups → AreSoundIn groups (has_feature p) old new first states)
+    × (index < length groups → AreSoundIn groups (asked_by p) old new first states)
     × OrdersOne states (slot_number groups index) (length new) first index p)
 Adds-pattern groups old middle later last new accept number after start end body first index p same starts ends sw ew a b x c =
     Adds-both old last new Three (λ (states : List State). slice_get states first ≡ Some (Capture start body))
@@ -109,11 +109,11 @@ Adds-pattern groups old middle later last new accept number after start end body
       subst (λ (q : ℕ). Begins states first (IsOfOne q p)) same
           (Begins-one states (slot_number groups index) number (length later) (length last) accept after body first p (whole states y z) (plain states y)
           y.1.3),
-      λ l. AreSound-pattern (2 * all_groups groups) (length groups) (has_feature p) (length old) (length later) (length last) (length new) accept number
+      λ l. AreSound-pattern (2 * all_groups groups) (length groups) (asked_by p) (length old) (length later) (length last) (length new) accept number
           after start end body first end states (omega (arith, l, same)) starts ends sw ew a.last (omega (arith, b.last, one)) (omega (arith, two, one))
           x.longer c.last (grown last new (Capture start body) first c) y.0.0 y.0.1 y.1.1
-          (Names-alike (2 * all_groups groups) (has_feature (numbered (slot_number groups index) 1 p)) (has_feature p) (length later) (length last) states
-          (numbered-features (slot_number groups index) 1 p) y.1.2)
+          (Names-alike (2 * all_groups groups) (asked_by (numbered (slot_number groups index) 1 p)) (asked_by p) (length later) (length last) states
+          (numbered-asks (slot_number groups index) 1 p) y.1.2)
           z,
       subst (λ (q : ℕ). OrdersOne states (slot_number groups index) (length new) first q p) same
           (OrdersOne-is states (slot_number groups index) number (length later) (length last) (length new) accept after body first p
@@ -127,7 +127,7 @@ Adds-pattern groups old middle later last new accept number after start end body
     IsPart : List State → List State → ℕ → ℕ → List State → Type 0
     IsPart from to low high states =
         Realizes states low high (numbered (slot_number groups index) 1 p) × Encloses end (length from) (length to) low high states
-        × Names (2 * all_groups groups) (has_feature (numbered (slot_number groups index) 1 p)) (length from) (length to) states
+        × Names (2 * all_groups groups) (asked_by (numbered (slot_number groups index) 1 p)) (length from) (length to) states
         × ByWays states low high (numbered (slot_number groups index) 1 p)
         × TakesCourse (length from) (length to) low high (numbered (slot_number groups index) 1 p) states
 
@@ -211,36 +211,36 @@ last-back patterns n p at last a i s =
 abbrev SomeBegin : GroupLists → List State → List State → ℕ → ℕ → List Pattern → List State → Type 0
 SomeBegin groups old new first n patterns states =
     Begins states first (IsOfSome n patterns)
-    × (length patterns ≤ length groups → AreSoundIn groups (some_has (drop n patterns)) old new first states)
+    × (length patterns ≤ length groups → AreSoundIn groups (some_ask (drop n patterns)) old new first states)
     × OrdersSome states (slot_number groups) (length new) first n patterns
 
 -- a test of the patterns from a number on is one of the first of them, or of those after it
-any_from : (patterns : List Pattern) (n : ℕ) (p : Pattern) → slice_get patterns n ≡ Some p → (f : Feature)
-    → some_has (drop n patterns) f ≡ (has_feature p f || some_has (drop (n + 1) patterns) f)
+any_from : (patterns : List Pattern) (n : ℕ) (p : Pattern) → slice_get patterns n ≡ Some p → (f : Look)
+    → some_ask (drop n patterns) f ≡ (asked_by p f || some_ask (drop (n + 1) patterns) f)
 any_from [] n p e f = absurd (cc)
-any_from (q ∷ rest) zero p e f = ap (λ (r : Pattern). has_feature r f || some_has rest f) (same_some q p e)
+any_from (q ∷ rest) zero p e f = ap (λ (r : Pattern). asked_by r f || some_ask rest f) (same_some q p e)
 any_from (q ∷ rest) (suc n) p e f = let one : suc n + 1 ≡ suc (n + 1) = omega arith in rw one (any_from rest n p e f)
 
-any_last : (patterns : List Pattern) (n : ℕ) (p : Pattern) → slice_get patterns n ≡ Some p → n + 1 ≡ length patterns → (f : Feature)
-    → some_has (drop n patterns) f ≡ has_feature p f
+any_last : (patterns : List Pattern) (n : ℕ) (p : Pattern) → slice_get patterns n ≡ Some p → n + 1 ≡ length patterns → (f : Look)
+    → some_ask (drop n patterns) f ≡ asked_by p f
 any_last patterns n p at last f =
     any_from patterns n p at f
-    ∙ (ap (λ (m : ℕ). has_feature p f || some_has (drop m patterns) f) last
-    ∙ (ap (λ (rest : List Pattern). has_feature p f || some_has rest f) (drop-length patterns) ∙ or_none (has_feature p f)))
+    ∙ (ap (λ (m : ℕ). asked_by p f || some_ask (drop m patterns) f) last
+    ∙ (ap (λ (rest : List Pattern). asked_by p f || some_ask rest f) (drop-length patterns) ∙ or_none (asked_by p f)))
 
 pub Adds-last : (groups : GroupLists) (old new : List State) (first n : ℕ) (p : Pattern) (patterns : List Pattern) → slice_get patterns n ≡ Some p
     → n + 1 ≡ length patterns
     → Adds old new (λ (states : List State). Begins states first (IsOfOne n p)
-    × (n < length groups → AreSoundIn groups (has_feature p) old new first states)
+    × (n < length groups → AreSoundIn groups (asked_by p) old new first states)
     × OrdersOne states (slot_number groups n) (length new) first n p)
     → Adds old new (λ (states : List State). Begins states first (IsOfSome n patterns)
-    × (length patterns ≤ length groups → AreSoundIn groups (some_has (drop n patterns)) old new first states)
+    × (length patterns ≤ length groups → AreSoundIn groups (some_ask (drop n patterns)) old new first states)
     × OrdersSome states (slot_number groups) (length new) first n patterns)
 Adds-last groups old new first n p patterns at last x =
     Adds-is old new (OneBegins groups old new first n p) (SomeBegin groups old new first n patterns)
     (λ states b. (
       Begins-is states first (IsOfOne n p) (IsOfSome n patterns) (last-is patterns n p at) (last-back patterns n p at last) b.0,
-      λ l. AreSound-alike (2 * all_groups groups) (length groups) (has_feature p) (some_has (drop n patterns)) (length old) (length new) first states
+      λ l. AreSound-alike (2 * all_groups groups) (length groups) (asked_by p) (some_ask (drop n patterns)) (length old) (length new) first states
           (λ f. sym (any_last patterns n p at last f)) (b.1 (omega (arith, l, last))),
       OrdersSome-last states (slot_number groups) (length new) first n p patterns at last b.2,
     )) x
@@ -266,14 +266,14 @@ more-back patterns n p at a i s = ⊎_elim
 pub Adds-more : (groups : GroupLists) (old middle last new : List State) (one first id n : ℕ) (p : Pattern) (patterns : List Pattern)
     → slice_get patterns n ≡ Some p
     → Adds old middle (λ (states : List State). Begins states first (IsOfSome (n + 1) patterns)
-    × (length patterns ≤ length groups → AreSoundIn groups (some_has (drop (n + 1) patterns)) old middle first states)
+    × (length patterns ≤ length groups → AreSoundIn groups (some_ask (drop (n + 1) patterns)) old middle first states)
     × OrdersSome states (slot_number groups) (length middle) first (n + 1) patterns)
     → Adds middle last (λ (states : List State). Begins states one (IsOfOne n p)
-    × (n < length groups → AreSoundIn groups (has_feature p) middle last one states)
+    × (n < length groups → AreSoundIn groups (asked_by p) middle last one states)
     × OrdersOne states (slot_number groups n) (length last) one n p)
     → IsAdded last new (Fork one first) id
     → Adds old new (λ (states : List State). Begins states id (IsOfSome n patterns)
-    × (length patterns ≤ length groups → AreSoundIn groups (some_has (drop n patterns)) old new id states)
+    × (length patterns ≤ length groups → AreSoundIn groups (some_ask (drop n patterns)) old new id states)
     × OrdersSome states (slot_number groups) (length new) id n patterns)
 Adds-more groups old middle last new one first id n p patterns at x y a =
     Adds-both old last new Both
@@ -284,9 +284,9 @@ Adds-more groups old middle last new one first id n p patterns at x y a =
       Begins-is states id (λ (t : Aim) (i : ℕ). IsOfOne n p t i ⊎ IsOfSome (n + 1) patterns t i) (IsOfSome n patterns)
           (more-is patterns n p at) (more-back patterns n p at)
           (Begins-either states id one first (IsOfOne n p) (IsOfSome (n + 1) patterns) is b.1.0 b.0.0 (λ s t i j x y. omega (arith, x.0, y.0))),
-      λ l. AreSound-alike (2 * all_groups groups) (length groups) (λ f. has_feature p f || some_has (drop (n + 1) patterns) f) (some_has (drop n patterns))
+      λ l. AreSound-alike (2 * all_groups groups) (length groups) (λ f. asked_by p f || some_ask (drop (n + 1) patterns) f) (some_ask (drop n patterns))
           (length old) (length new) id states (λ f. sym (any_from patterns n p at f))
-          (AreSound-more (2 * all_groups groups) (length groups) (has_feature p) (some_has (drop (n + 1) patterns)) (length old)
+          (AreSound-more (2 * all_groups groups) (length groups) (asked_by p) (some_ask (drop (n + 1) patterns)) (length old)
           (length middle) (length last) (length new) one first id states x.longer y.longer a.last (grown last new (Fork one first) id a) (b.0.1 l)
           (b.1.1 (omega (arith, l, slice_get_within patterns n p at))) is),
       OrdersSome-more states (slot_number groups) (length middle) (length last) (length new) id one first n p patterns at is y.longer (omega (arith, a.last))

@@ -5,7 +5,7 @@ use Rattle.rsc_nfa.specs.declared.state.State.{State}
 use Rattle.rsc_nfa.specs.declared.state.State.TheVariants.{ByteRange, Assert, Fork, Capture}
 use Rattle.rsc_nfa.specs.Steps.{is_between}
 use Rattle.rsc_engine.specs.Patterns.{Pattern, Empty, Never, Class, Assertion, Then, Either, Repeat, Group, Subject}
-use Rattle.rsc_engine.specs.Ways.{Mark, with_record}
+use Rattle.rsc_engine.specs.Ways.{Point, with_record}
 use Rattle.rsc_engine.specs.WaysLayout.{IsWay, finish}
 use Rattle.rsc_engine.specs.ByWaysLayout.{GoesOnWith, ByWays}
 use Rattle.rsc_engine.specs.LinksLayout.{IsChoice, choice_of, optional}
@@ -117,15 +117,15 @@ ByWays-either states s one other next p q is op oq = record {
       (either_way states x end m s one other from rest is w);
 }
 
-pub ByWays-choice : (states : List State) (s first next : ℕ) (often : Bool) (p : Pattern) → slice_get states s ≡ Some (choice_of often first next)
-    → ByWays states first next p → ByWays states s next (optional often p)
+pub ByWays-choice : (states : List State) (s first next : ℕ) (greedy : Bool) (p : Pattern) → slice_get states s ≡ Some (choice_of greedy first next)
+    → ByWays states first next p → ByWays states s next (optional greedy p)
 ByWays-choice states s first next true p is o = ByWays-either states s first next next p Empty is o (ByWays-empty states next)
 ByWays-choice states s first next false p is o = ByWays-either states s next first next Empty p is (ByWays-empty states next) o
 
 -- ---- loops
 
 -- a choice leads to the part or to what comes next
-choice_way : (states : List State) (x : Subject) (end m s first next : ℕ) (from : Mark) (rest : List (ℕ × ℕ)) → IsChoice states s first next
+choice_way : (states : List State) (x : Subject) (end m s first next : ℕ) (from : Point) (rest : List (ℕ × ℕ)) → IsChoice states s first next
     → IsWay states x end m (s, from.0) rest
     → Rest states x end m first from (length rest) (finish states (s, from.0) rest from.1)
     ⊎ Rest states x end m next from (length rest) (finish states (s, from.0) rest from.1)
@@ -137,14 +137,14 @@ choice_way states x end m s first next from rest c w = ⊎_elim
     (either_way states x end m s next first from rest is w))
     c
 
-around_with : (states : List State) (x : Subject) (end m s first next fuel : ℕ) (from : Mark) (often : Bool) (p : Pattern) (rest : List (ℕ × ℕ))
+around_with : (states : List State) (x : Subject) (end m s first next fuel : ℕ) (from : Point) (greedy : Bool) (p : Pattern) (rest : List (ℕ × ℕ))
     → IsChoice states s first next → ByWays states first s p → length rest < fuel → IsWay states x end m (s, from.0) rest
-    → GoesOnWith states x end m next (Repeat 0 None often p) from (length rest) (finish states (s, from.0) rest from.1)
-around_with states x end m s first next zero from often p rest c o l w = absurd (omega (arith, l))
-around_with states x end m s first next (suc fuel) from often p rest c o l w = ⊎_elim
+    → GoesOnWith states x end m next (Repeat 0 None greedy p) from (length rest) (finish states (s, from.0) rest from.1)
+around_with states x end m s first next zero from greedy p rest c o l w = absurd (omega (arith, l))
+around_with states x end m s first next (suc fuel) from greedy p rest c o l w = ⊎_elim
     (λ (v : Rest states x end m first from (length rest) (finish states (s, from.0) rest from.1)).
     let g = o.through x end m from v.rest v.way in
-    let f = around_with states x end m s first next fuel g.to often p g.rest c o (omega (arith, g.fewer, v.fewer, l)) g.way in
+    let f = around_with states x end m s first next fuel g.to greedy p g.rest c o (omega (arith, g.fewer, v.fewer, l)) g.way in
     record {
       to = f.to;
       rest = f.rest;
@@ -158,16 +158,16 @@ around_with states x end m s first next (suc fuel) from often p rest c o l w = �
     (choice_way states x end m s first next from rest c w)
 
 -- the part any number of times, from the state after each time
-pub ByWays-star : (states : List State) (s first next : ℕ) (often : Bool) (p : Pattern) → slice_get states s ≡ Some (choice_of often first next)
-    → ByWays states first s p → ByWays states s next (Repeat 0 None often p)
-ByWays-star states s first next often p is o = record {
+pub ByWays-star : (states : List State) (s first next : ℕ) (greedy : Bool) (p : Pattern) → slice_get states s ≡ Some (choice_of greedy first next)
+    → ByWays states first s p → ByWays states s next (Repeat 0 None greedy p)
+ByWays-star states s first next greedy p is o = record {
   through = λ x end m from rest w.
-      around_with states x end m s first next (suc (length rest)) from often p rest (is_choice states s first next often is) o (omega arith) w;
+      around_with states x end m s first next (suc (length rest)) from greedy p rest (is_choice states s first next greedy is) o (omega arith) w;
 }
 
 -- and from its own state once or more
-pub ByWays-plus : (states : List State) (s first next : ℕ) (often : Bool) (p : Pattern) → slice_get states s ≡ Some (choice_of often first next)
-    → ByWays states first s p → ByWays states first next (Repeat 1 None often p)
-ByWays-plus states s first next often p is o =
-    ByWays-is states first next (Then p (Repeat 0 None often p)) (Repeat 1 None often p) (plus-ways often p)
-    (ByWays-then states first s next p (Repeat 0 None often p) (ByWays-star states s first next often p is o) o)
+pub ByWays-plus : (states : List State) (s first next : ℕ) (greedy : Bool) (p : Pattern) → slice_get states s ≡ Some (choice_of greedy first next)
+    → ByWays states first s p → ByWays states first next (Repeat 1 None greedy p)
+ByWays-plus states s first next greedy p is o =
+    ByWays-is states first next (Then p (Repeat 0 None greedy p)) (Repeat 1 None greedy p) (plus-ways greedy p)
+    (ByWays-then states first s next p (Repeat 0 None greedy p) (ByWays-star states s first next greedy p is o) o)

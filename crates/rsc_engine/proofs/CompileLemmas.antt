@@ -7,21 +7,23 @@ use Rattle.rsc_nfa.specs.declared.state.State.{State}
 use Rattle.rsc_nfa.specs.declared.state.State.TheVariants.{ByteRange, Assert, Fork, Capture}
 use Rattle.rsc_engine.specs.Patterns.{Pattern, Empty, Never, Class, Literal, Assertion, Then, Either, Group, one_of, Subject, Goes}
 use Rattle.rsc_engine.specs.EnclosesLayout.{IsOnWay, StaysOnWay, Encloses}
-use Rattle.rsc_engine.specs.Features.{Feature, has_feature}
-use Rattle.rsc_engine.specs.NamesLayout.{RecordsBelow, Lacks, Names}
-use Rattle.rsc_engine.proofs.NamesLayoutLemmas.{Names-none, Names-joined, Names-one, Names-above, Names-alike, nothing, fork-lacks, capture-lacks, none-same, either_back, range-lacks, range-shows, assert-lacks, assert-shows, class-same, literal-same, between-same}
+use Rattle.rsc_nfa.specs.Classes.{asserts}
+use Rattle.rsc_nfa.specs.Steps.{is_between}
+use Rattle.rsc_engine.specs.Asks.{asks}
+use Rattle.rsc_engine.specs.NamesLayout.{Fits, asked_by, Names}
+use Rattle.rsc_engine.proofs.NamesLayoutLemmas.{Names-none, Names-joined, Names-one, Names-above, Names-alike, nothing, either_back, between-same}
 use Rattle.rsc_captures.specs.Groups.{GroupLists, slot_number}
 use Rattle.std.proofs.lemmas.Bool.Decides.{nat_tests}
 use Rattle.rsc_engine.specs.GroupNumbers.{count_groups, numbered}
 use Rattle.rsc_engine.specs.LinksLayout.{Adds, Builds, BuildsPart, IsAdded, Realizes}
-use Rattle.rsc_engine.proofs.LinksLayoutLemmas.{Realizes-never, Realizes-range, Realizes-assert, Realizes-capture, Realizes-empty, Realizes-is, Realizes-then, Realizes-between, Realizes-either}
+use Rattle.rsc_engine.proofs.LinksLayoutLemmas.{Realizes-never, Realizes-range, Realizes-assert, Realizes-capture, Realizes-empty, Realizes-is, Realizes-then, Realizes-between, Realizes-either, one_of_one}
 use Rattle.rsc_engine.proofs.EnclosesLayoutLemmas.{Encloses-one, Encloses-then, Encloses-either}
-use Rattle.rsc_engine.proofs.PatternsLemmas.{class-back, literal-back}
+use Rattle.rsc_engine.proofs.PatternsLemmas.{none-between, class-back, literal-back}
 use Rattle.rsc_engine.specs.ByWaysLayout.{ByWays}
 use Rattle.rsc_engine.specs.Courses.{Course}
 use Rattle.rsc_engine.specs.PreferredWays.{IsCourseOf}
 use Rattle.rsc_engine.specs.TakesLayout.{TakesCourse}
-use Rattle.rsc_engine.proofs.TakesLayoutLemmas.{Takes-empty, Takes-never, Takes-range, Takes-assert, Takes-is, Takes-then, Takes-either, Takes-group, Takes-wider, class-course, byte-course}
+use Rattle.rsc_engine.proofs.TakesLayoutLemmas.{Takes-empty, Takes-never, Takes-range, Takes-assert, Takes-is, Takes-then, Takes-either, Takes-group, Takes-wider, Takes-reversed, class-course, byte-course}
 use Rattle.rsc_engine.proofs.FirstWaysLemmas.{HasWays, class-ways, literal-ways, literal_none-ways}
 use Rattle.rsc_engine.proofs.ByWaysLayoutLemmas.{ByWays-empty, ByWays-is, ByWays-never, ByWays-range, ByWays-assert, ByWays-group, ByWays-then, ByWays-either}
 
@@ -102,21 +104,21 @@ Adds-written old middle new state written id P a p = record {
 -- the states from low to high are a part's
 abbrev pub IsPart : ℕ × ℕ → ℕ → ℕ → ℕ → ℕ → Pattern → List State → Type 0
 IsPart slots low high first next p all =
-    Realizes all first next p × Encloses slots.0 low high first next all × Names slots.1 (has_feature p) low high all × ByWays all first next p
+    Realizes all first next p × Encloses slots.0 low high first next all × Names slots.1 (asked_by p) low high all × ByWays all first next p
     × TakesCourse low high first next p all
 
 -- all but the order and the course
 abbrev IsShape : ℕ × ℕ → ℕ → ℕ → ℕ → ℕ → Pattern → List State → Type 0
 IsShape slots low high first next p all =
-    Realizes all first next p × Encloses slots.0 low high first next all × Names slots.1 (has_feature p) low high all
+    Realizes all first next p × Encloses slots.0 low high first next all × Names slots.1 (asked_by p) low high all
 
 shape-then : (slots : ℕ × ℕ) (low middle high first between next : ℕ) (p q : Pattern) (all : List State) → low ≤ middle → middle ≤ high
     → IsShape slots low middle between next q all → IsShape slots middle high first between p all → IsShape slots low high first next (Then p q) all
 shape-then slots low middle high first between next p q all l h a b = (
   Realizes-then all first between next p q a.0 b.0,
   Encloses-then slots.0 low middle high first between next all l h a.1 b.1,
-  Names-joined slots.1 (has_feature (Then p q)) (has_feature q) (has_feature p) low middle high all
-      (either_back (has_feature q) (has_feature p)) l h a.2 b.2,
+  Names-joined slots.1 (asked_by (Then p q)) (asked_by q) (asked_by p) low middle high all
+      (either_back (asked_by q) (asked_by p)) l h a.2 b.2,
 )
 
 part-then : (slots : ℕ × ℕ) (low middle high first between next : ℕ) (p q : Pattern) (all : List State) → low ≤ middle → middle ≤ high
@@ -135,14 +137,14 @@ Builds-then slots old middle new first between next p q x y =
 -- a part is what goes where it goes
 pub Builds-is : (slots : ℕ × ℕ) (old new : List State) (first next : ℕ) (p q : Pattern) → ((x : Subject) (i j : ℕ) → Goes x q i j → Goes x p i j)
     → HasWays p q
-    → ((f : Feature) → has_feature p f ≡ has_feature q f) → ((c : Course) → IsCourseOf p c → IsCourseOf q c) → Builds slots old new first next p
+    → ((f : Look) → asks f p ≡ asks f q) → ((c : Course) → IsCourseOf p c → IsCourseOf q c) → Builds slots old new first next p
     → Builds slots old new first next q
 Builds-is slots old new first next p q back ways same courses x =
     Adds-is old new (IsPart slots (length old) (length new) first next p) (IsPart slots (length old) (length new) first next q)
     (λ all r. (
       Realizes-is all first next p q back r.0,
       r.1,
-      Names-alike slots.1 (has_feature p) (has_feature q) (length old) (length new) all same r.2,
+      Names-alike slots.1 (asked_by p) (asked_by q) (length old) (length new) all same r.2,
       ByWays-is all first next p q ways r.3,
       Takes-is (length old) (length new) first next p q all courses r.4,
     )) x
@@ -173,16 +175,15 @@ grown old new state id a = a.one
 
 Builds-state : (slots : ℕ × ℕ) (old new : List State) (state : State) (id next : ℕ) (p : Pattern) → IsAdded old new state id
     → StaysOnWay (λ (s : ℕ). IsOnWay (length old) (length new) next s) slots.0 state
-    → RecordsBelow slots.1 state → ((f : Feature) → has_feature p f ≡ false → Lacks f state)
-    → ((f : Feature) → has_feature p f ≡ true → Lacks f state → ⊥) → ((all : List State) → slice_get all id ≡ Some state
+    → Fits slots.1 state → ((f : Look) → asserts f state ≡ asks f p) → ((all : List State) → slice_get all id ≡ Some state
     → Realizes all id next p × ByWays all id next p × TakesCourse (length old) (length new) id next p all)
     → Builds slots old new id next p
-Builds-state slots old new state id next p a stays below lacks shows realizes =
+Builds-state slots old new state id next p a stays fits has realizes =
     Adds-is old new (λ (all : List State). slice_get all id ≡ Some state) (IsPart slots (length old) (length new) id next p)
     (λ all is. (
       (realizes all is).0,
       Encloses-one slots.0 (length old) (length new) id next all state a.last (grown old new state id a) is stays,
-      Names-one slots.1 (has_feature p) (length old) (length new) id all state a.last (grown old new state id a) is below lacks shows,
+      Names-one slots.1 (asked_by p) (length old) (length new) id all state a.last (grown old new state id a) is fits has,
       (realizes all is).1,
       (realizes all is).2,
     ))
@@ -193,21 +194,21 @@ pub Builds-never : (slots : ℕ × ℕ) (old new : List State) (this id next : �
 Builds-never slots old new this id next e a =
     let same : this ≡ id = e ∙ sym a.last in
     let here : IsOnWay (length old) (length new) next this = inl (omega (arith, e), omega (arith, e, grown old new (Fork this this) id a)) in
-    Builds-state slots old new (Fork this this) id next Never a (here, here) tt (λ f e. fork-lacks this this f) (λ f e. absurd (true≢false (sym e)))
+    Builds-state slots old new (Fork this this) id next Never a (here, here) tt (λ f. refl)
     (λ all is.
     let loop = is ∙ ap (λ (n : ℕ). Some (Fork n n)) same in
     (Realizes-never all id next loop, ByWays-never all id next loop, Takes-never (length old) (length new) id next all loop))
 
-pub Builds-range : (slots : ℕ × ℕ) (old new : List State) (x y id next : ℕ) → IsAdded old new (ByteRange x y next) id
+pub Builds-range : (slots : ℕ × ℕ) (old new : List State) (x y id next : ℕ) → x ≤ y → IsAdded old new (ByteRange x y next) id
     → Builds slots old new id next (Class ((x, y) ∷ []))
-Builds-range slots old new x y id next a =
-    Builds-state slots old new (ByteRange x y next) id next (Class ((x, y) ∷ [])) a (inr refl) tt (range-lacks x y next) (range-shows x y next)
+Builds-range slots old new x y id next order a =
+    Builds-state slots old new (ByteRange x y next) id next (Class ((x, y) ∷ [])) a (inr refl) order (λ f. refl)
     (λ all is. (Realizes-range all id x y next is, ByWays-range all id x y next is, Takes-range (length old) (length new) id x y next all is))
 
 pub Builds-assert : (slots : ℕ × ℕ) (old new : List State) (look : Look) (id next : ℕ) → IsAdded old new (Assert look next) id
     → Builds slots old new id next (Assertion look)
 Builds-assert slots old new look id next a =
-    Builds-state slots old new (Assert look next) id next (Assertion look) a (inr refl) tt (assert-lacks look next) (assert-shows look next)
+    Builds-state slots old new (Assert look next) id next (Assertion look) a (inr refl) tt (λ f. refl)
     (λ all is. (Realizes-assert all id next look is, ByWays-assert all id next look is, Takes-assert (length old) (length new) id next look all is))
 
 shape-capture : (slots : ℕ × ℕ) (low high c id next : ℕ) (all : List State) → id ≡ low → high ≡ low + 1 → slice_get all id ≡ Some (Capture c next)
@@ -215,7 +216,7 @@ shape-capture : (slots : ℕ × ℕ) (low high c id next : ℕ) (all : List Stat
 shape-capture slots low high c id next all same one is l m = (
   Realizes-capture all id c next is,
   Encloses-one slots.0 low high id next all (Capture c next) same one is (l, inr refl),
-  Names-one slots.1 nothing low high id all (Capture c next) same one is m (λ f e. capture-lacks c next f) (λ f e. absurd (true≢false (sym e))),
+  Names-one slots.1 nothing low high id all (Capture c next) same one is m (λ f. refl),
 )
 
 -- ---- states after parts
@@ -232,10 +233,10 @@ Builds-either slots old middle last new one other id next p q x y a =
       Realizes-either all id one other next p q is b.1.0 b.0.0,
       Encloses-either slots.0 (length old) (length middle) (length last) (length new) one other id next all x.longer y.longer a.last
           (grown last new (Fork one other) id a) b.0.1 b.1.1 is,
-      Names-above slots.1 (has_feature (Either p q)) (length old) (length last) (length new) id one other all
+      Names-above slots.1 (asked_by (Either p q)) (length old) (length last) (length new) id one other all
           (omega (arith, x.longer, y.longer)) a.last (grown last new (Fork one other) id a) is
-          (Names-joined slots.1 (has_feature (Either p q)) (has_feature q) (has_feature p) (length old) (length middle) (length last) all
-          (either_back (has_feature q) (has_feature p)) x.longer y.longer b.0.2 b.1.2),
+          (Names-joined slots.1 (asked_by (Either p q)) (asked_by q) (asked_by p) (length old) (length middle) (length last) all
+          (either_back (asked_by q) (asked_by p)) x.longer y.longer b.0.2 b.1.2),
       ByWays-either all id one other next p q is b.1.3 b.0.3,
       Takes-either (length old) (length middle) (length last) (length new) one other id next p q all x.longer y.longer a.last
           (grown last new (Fork one other) id a) is b.0.4 b.1.4,
@@ -246,20 +247,20 @@ Builds-either slots old middle last new one other id next p q x y a =
 
 -- a range before others, in a class
 pub Builds-class : (slots : ℕ × ℕ) (old middle last new : List State) (x y one other id next : ℕ) (rest : List (ℕ × ℕ))
-    → 0 < length rest → Builds slots old middle other next (Class rest)
-    → IsAdded middle last (ByteRange x y next) one → IsAdded last new (Fork one other) id → Builds slots old new id next (Class ((x, y) ∷ rest))
+    → 0 < length rest → Builds slots old middle other next (Class rest) → Builds slots middle last one next (Class ((x, y) ∷ []))
+    → IsAdded last new (Fork one other) id → Builds slots old new id next (Class ((x, y) ∷ rest))
 Builds-class slots old middle last new x y one other id next rest some r a b =
     Builds-is slots old new id next (Either (Class ((x, y) ∷ [])) (Class rest)) (Class ((x, y) ∷ rest)) (class-back x y rest)
-    (class-ways x y rest) (class-same x y rest) (class-course x y rest some)
-    (Builds-either slots old middle last new one other id next (Class ((x, y) ∷ [])) (Class rest) r (Builds-range slots middle last x y one next a) b)
+    (class-ways x y rest) (λ f. refl) (class-course x y rest some)
+    (Builds-either slots old middle last new one other id next (Class ((x, y) ∷ [])) (Class rest) r a b)
 
 -- a byte before others
 pub Builds-byte : (slots : ℕ × ℕ) (old middle new : List State) (b first id next : ℕ) (rest : List ℕ) → Builds slots old middle first next (Literal rest)
     → IsAdded middle new (ByteRange b b first) id → Builds slots old new id next (Literal (b ∷ rest))
 Builds-byte slots old middle new b first id next rest r a =
     Builds-is slots old new id next (Then (Class ((b, b) ∷ [])) (Literal rest)) (Literal (b ∷ rest)) (literal-back b rest)
-    (literal-ways b rest) (literal-same b rest) (byte-course b rest)
-    (Builds-then slots old middle new id first next (Class ((b, b) ∷ [])) (Literal rest) r (Builds-range slots middle new b b id first a))
+    (literal-ways b rest) (λ f. refl) (byte-course b rest)
+    (Builds-then slots old middle new id first next (Class ((b, b) ∷ [])) (Literal rest) r (Builds-range slots middle new b b id first (omega arith) a))
 
 -- a part between two records, which are in the slots of a pair; the one of its end is written last
 pub Builds-group : (slots : ℕ × ℕ) (old middle last new : List State) (state : State) (start end body after id next : ℕ) (p : Pattern)
@@ -280,7 +281,7 @@ Builds-group slots old middle last new state start end body after id next p l se
       Realizes-is all id next p (Group start p) (λ t i j g. g)
           (Realizes-between all id body after next p (Realizes-capture all after end next y.0) y.1.0 (Realizes-capture all id start body is)),
       s.1,
-      Names-alike slots.1 (has_feature (Then Empty (Then p Empty))) (has_feature (Group start p)) (length old) (length new) all (between-same p) s.2,
+      Names-alike slots.1 (asked_by (Then Empty (Then p Empty))) (asked_by (Group start p)) (length old) (length new) all (between-same p) s.2,
       ByWays-group all id body after next start p is (y.0 ∙ ap (λ (c : ℕ). Some (Capture c next)) second) y.1.3,
       Takes-wider (length middle) (length last) (length old) (length new) id next (Group start p) all (omega (arith, one)) (omega (arith, two))
           (Takes-group (length middle) (length last) id body after next start p all is (y.0 ∙ ap (λ (c : ℕ). Some (Capture c next)) second) y.1.4),
@@ -313,8 +314,22 @@ pub Builds-none : (slots : ℕ × ℕ) (old new : List State) (first next : ℕ)
     → Builds slots old new first next (Class ranges)
 Builds-none slots old new first next [] none x =
     Builds-is slots old new first next Never (Class []) (λ t i j g. absurd (true≢false (sym g.0)))
-    (λ t m n f. absurd f) none-same (λ c h. h) x
+    (λ t m n f. absurd f) (λ f. refl) (λ c h. h) x
 Builds-none slots old new first next (r ∷ rest) none x = absurd (omega (arith, none))
+
+-- nor has one of a range whose first byte is above its last
+pub Builds-reversed : (slots : ℕ × ℕ) (old new : List State) (first next x y : ℕ) → y < x → Builds slots old new first next Never
+    → Builds slots old new first next (Class ((x, y) ∷ []))
+Builds-reversed slots old new first next x y less b =
+    Adds-is old new (IsPart slots (length old) (length new) first next Never) (IsPart slots (length old) (length new) first next (Class ((x, y) ∷ [])))
+    (λ all r. (
+      Realizes-is all first next Never (Class ((x, y) ∷ [])) (λ t i j g. absurd
+          (none-between x y (slice_get t.haystack i) less (one_of_one (is_between x y (slice_get t.haystack i)) g.0))) r.0,
+      r.1,
+      Names-alike slots.1 (asked_by Never) (asked_by (Class ((x, y) ∷ []))) (length old) (length new) all (λ f. refl) r.2,
+      ByWays-is all first next Never (Class ((x, y) ∷ [])) (λ t m n f. absurd f) r.3,
+      Takes-reversed (length old) (length new) first next x y all less r.4,
+    )) b
 
 -- ---- parts with the slots of their groups
 

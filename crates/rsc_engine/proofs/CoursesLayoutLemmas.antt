@@ -8,13 +8,14 @@ use Rattle.rsc_engine.specs.Patterns.{Subject}
 use Rattle.rsc_engine.specs.LinksLayout.{choice_of}
 use Rattle.rsc_engine.proofs.LinksLayoutLemmas.{may_accept}
 use Rattle.rsc_engine.specs.Courses.{Course, Skip, Dead, Byte, Here, After, Choose, Turn, Again, Within, Stand, further, chosen, noted, IsNew, Turns, SomeTurns, GoesNew, Reaches}
-use Rattle.rsc_engine.specs.PathsLayout.{by_state, Leads, IsPath, HasPath, Least, arrive}
+use Rattle.rsc_engine.specs.PathsLayout.{by_state, PathLeads, IsPath, HasPath, Least, arrive}
 use Rattle.rsc_engine.specs.CoursesLayout.{Through, FirstThrough, Follows}
 use Rattle.rsc_engine.proofs.CoursesLemmas.{IsMoreAt, new-alike}
+use Rattle.rsc_engine.proofs.PatternsLemmas.{none-between}
 
 -- ---- a step of a path
 
-step_within : (o : Option State) (x : Subject) (end f : ℕ) (s : Stand) (g : ℕ) → Leads o x end f s g → (by_state o f s).at ≤ end → s.at ≤ end
+step_within : (o : Option State) (x : Subject) (end f : ℕ) (s : Stand) (g : ℕ) → PathLeads o x end f s g → (by_state o f s).at ≤ end → s.at ≤ end
 step_within None x end f s g leads l = absurd leads
 step_within (Some (ByteRange a b next)) x end f s g leads l = omega (arith, l)
 step_within (Some (Assert look next)) x end f s g leads l = l
@@ -31,7 +32,7 @@ path_within states x end m f s (g ∷ rest) w =
 record Onward (states : List State) (x : Subject) (end m f : ℕ) (s : Stand) (state : State) (most : ℕ) (last : ℕ × Stand) : Type 0 where
   to : ℕ
   rest : List ℕ
-  leads : Leads (Some state) x end f s to
+  leads : PathLeads (Some state) x end f s to
   path : IsPath states x end m to (by_state (Some state) f s) rest
   ends : arrive states to (by_state (Some state) f s) rest ≡ last
   fewer : length rest + 1 ≡ most
@@ -42,7 +43,7 @@ onward states x end m f s state [] is stays w = absurd (true≢false (sym (ap ma
 onward states x end m f s state (g ∷ rest) is stays w = record {
   to = g;
   rest = rest;
-  leads = subst (λ (o : Option State). Leads o x end f s g) is w.0;
+  leads = subst (λ (o : Option State). PathLeads o x end f s g) is w.0;
   path = subst (λ (o : Option State). IsPath states x end m g (by_state o f s) rest) is w.1;
   ends = ap (λ (o : Option State). arrive states g (by_state o f s) rest) (sym is);
   fewer = omega arith;
@@ -50,9 +51,9 @@ onward states x end m f s state (g ∷ rest) is stays w = record {
 
 -- a step before a path
 backward : (states : List State) (x : Subject) (end m f : ℕ) (state : State) (s : Stand) (g : ℕ) (rest : List ℕ) → slice_get states f ≡ Some state
-    → Leads (Some state) x end f s g → IsPath states x end m g (by_state (Some state) f s) rest → IsPath states x end m f s (g ∷ rest)
+    → PathLeads (Some state) x end f s g → IsPath states x end m g (by_state (Some state) f s) rest → IsPath states x end m f s (g ∷ rest)
 backward states x end m f state s g rest is leads w = (
-  subst (λ (o : Option State). Leads o x end f s g) (sym is) leads,
+  subst (λ (o : Option State). PathLeads o x end f s g) (sym is) leads,
   subst (λ (o : Option State). IsPath states x end m g (by_state o f s) rest) (sym is) w,
 )
 
@@ -60,7 +61,7 @@ backward states x end m f state s g rest is leads w = (
 record First (states : List State) (x : Subject) (end m f : ℕ) (s : Stand) (state : State) (most : ℕ) (last : ℕ × Stand) : Type 0 where
   to : ℕ
   rest : List ℕ
-  leads : Leads (Some state) x end f s to
+  leads : PathLeads (Some state) x end f s to
   least : Least states x end m to (by_state (Some state) f s) rest
   ends : arrive states to (by_state (Some state) f s) rest ≡ last
   fewer : length rest + 1 ≡ most
@@ -69,7 +70,7 @@ first_step : (states : List State) (x : Subject) (end m f : ℕ) (s : Stand) (st
     → may_accept (Some state) ≡ false → Least states x end m f s rest → First states x end m f s state (length rest) (arrive states f s rest)
 first_step states x end m f s state [] is stays l = absurd (true≢false (sym (ap may_accept l.path.0) ∙ (ap may_accept is ∙ stays)))
 first_step states x end m f s state (g ∷ rest) is stays l =
-    let leads : Leads (Some state) x end f s g = subst (λ (o : Option State). Leads o x end f s g) is l.path.0 in
+    let leads : PathLeads (Some state) x end f s g = subst (λ (o : Option State). PathLeads o x end f s g) is l.path.0 in
     record {
       to = g;
       rest = rest;
@@ -133,7 +134,7 @@ from_fork states x end m f a b s (g ∷ rest) is l = (
 )
   where
     leads : IsNew f s × ((g ≡ a) ⊎ (g ≡ b))
-    leads = subst (λ (o : Option State). Leads o x end f s g) is l.path.0
+    leads = subst (λ (o : Option State). PathLeads o x end f s g) is l.path.0
 
     there : (h : ℕ) → g ≡ h → Way states x end m f h s (suc (length rest)) (arrive states g (by_state (slice_get states f) f s) rest)
     there h e = record {
@@ -148,8 +149,8 @@ from_fork states x end m f a b s (g ∷ rest) is l = (
     }
 
 -- a choice leads to the part or to what comes next
-choice_way : (states : List State) (x : Subject) (end m f first next : ℕ) (often : Bool) (s : Stand) (rest : List ℕ)
-    → slice_get states f ≡ Some (choice_of often first next) → IsPath states x end m f s rest
+choice_way : (states : List State) (x : Subject) (end m f first next : ℕ) (greedy : Bool) (s : Stand) (rest : List ℕ)
+    → slice_get states f ≡ Some (choice_of greedy first next) → IsPath states x end m f s rest
     → IsNew f s × (Rest states x end m f first s (length rest) (arrive states f s rest) ⊎ Rest states x end m f next s (length rest) (arrive states f s rest))
 choice_way states x end m f first next true s rest is w = either_way states x end m f first next s rest is w
 choice_way states x end m f first next false s rest is w =
@@ -160,8 +161,8 @@ choice_way states x end m f first next false s rest is w =
           (λ (v : Rest states x end m f first s (length rest) (arrive states f s rest)). inl v) e.1,
     )
 
-choice_back : (states : List State) (x : Subject) (end m f first next : ℕ) (often : Bool) (s : Stand) (g : ℕ)
-    → slice_get states f ≡ Some (choice_of often first next) → IsNew f s → (g ≡ first) ⊎ (g ≡ next) → HasPath states x end m g (chosen f s)
+choice_back : (states : List State) (x : Subject) (end m f first next : ℕ) (greedy : Bool) (s : Stand) (g : ℕ)
+    → slice_get states f ≡ Some (choice_of greedy first next) → IsNew f s → (g ≡ first) ⊎ (g ≡ next) → HasPath states x end m g (chosen f s)
     → HasPath states x end m f s
 choice_back states x end m f first next true s g is new which w =
     (g ∷ w.0, backward states x end m f (Fork first next) s g w.0 is (new, which) w.1)
@@ -242,7 +243,7 @@ never_ends : (states : List State) (x : Subject) (end m f : ℕ) (s : Stand) (re
     → IsPath states x end m f s rest → ⊥
 never_ends states x end m f s [] is w = true≢false (sym (ap may_accept w.0) ∙ ap may_accept is)
 never_ends states x end m f s (g ∷ rest) is w =
-    let leads : IsNew f s × ((g ≡ f) ⊎ (g ≡ f)) = subst (λ (o : Option State). Leads o x end f s g) is w.0 in
+    let leads : IsNew f s × ((g ≡ f) ⊎ (g ≡ f)) = subst (λ (o : Option State). PathLeads o x end f s g) is w.0 in
     let same : g ≡ f = ⊎_elim (λ (e : g ≡ f). e) (λ (e : g ≡ f). e) leads.1 in
     never_ends states x end m f (by_state (slice_get states f) f s) rest is
     (subst (λ (k : ℕ). IsPath states x end m k (by_state (slice_get states f) f s) rest) same w.1)
@@ -252,6 +253,14 @@ Follows-dead states f next is = record {
   through = λ x end m s rest w. absurd (never_ends states x end m f s rest is w);
   back = λ x end m s t g w. absurd g;
   goes = λ x end m s rest l. absurd (never_ends states x end m f s rest is l.path);
+}
+
+-- nor does one go by a byte of a range whose first byte is above its last
+pub Follows-reversed : (states : List State) (f next a b : ℕ) → b < a → Follows states f next Dead → Follows states f next (Byte a b)
+Follows-reversed states f next a b less o = record {
+  through = λ x end m s rest w. absurd (o.through x end m s rest w).goes;
+  back = λ x end m s t g w. absurd (none-between a b (slice_get x.haystack s.at) less g.0);
+  goes = λ x end m s rest l. absurd (o.goes x end m s rest l).first;
 }
 
 -- ---- courses made of courses
@@ -383,16 +392,16 @@ Follows-within states first body after next slot c begins closes oc = record {
 
 -- ---- loops
 
-turns_through : (states : List State) (x : Subject) (end m f first next fuel : ℕ) (often : Bool) (c : Course) (s : Stand) (rest : List ℕ)
-    → slice_get states f ≡ Some (choice_of often first next) → Follows states first f c → length rest < fuel → IsPath states x end m f s rest
-    → Through states x end m next (Turn f often c) s (length rest) (arrive states f s rest)
-turns_through states x end m f first next zero often c s rest is oc l w = absurd (omega (arith, l))
-turns_through states x end m f first next (suc fuel) often c s rest is oc l w =
-    let e = choice_way states x end m f first next often s rest is w in
+turns_through : (states : List State) (x : Subject) (end m f first next fuel : ℕ) (greedy : Bool) (c : Course) (s : Stand) (rest : List ℕ)
+    → slice_get states f ≡ Some (choice_of greedy first next) → Follows states first f c → length rest < fuel → IsPath states x end m f s rest
+    → Through states x end m next (Turn f greedy c) s (length rest) (arrive states f s rest)
+turns_through states x end m f first next zero greedy c s rest is oc l w = absurd (omega (arith, l))
+turns_through states x end m f first next (suc fuel) greedy c s rest is oc l w =
+    let e = choice_way states x end m f first next greedy s rest is w in
     ⊎_elim
     (λ (v : Rest states x end m f first s (length rest) (arrive states f s rest)).
     let g = oc.through x end m (chosen f s) v.rest v.path in
-    let h = turns_through states x end m f first next fuel often c g.to g.rest is oc (omega (arith, l, g.fewer, v.fewer)) g.path in
+    let h = turns_through states x end m f first next fuel greedy c g.to g.rest is oc (omega (arith, l, g.fewer, v.fewer)) g.path in
     record {
       to = h.to;
       rest = h.rest;
@@ -405,22 +414,22 @@ turns_through states x end m f first next (suc fuel) often c s rest is oc l w =
     record { to = chosen f s; rest = v.rest; goes = (0, (e.0, refl)); path = v.path; ends = v.ends; fewer = omega (arith, v.fewer) })
     e.1
 
-turns_back : (states : List State) (x : Subject) (end m f first next : ℕ) (often : Bool) (c : Course) (n : ℕ) (s t : Stand)
-    → slice_get states f ≡ Some (choice_of often first next) → Follows states first f c → Turns (GoesNew x c) f n s t → HasPath states x end m next t
+turns_back : (states : List State) (x : Subject) (end m f first next : ℕ) (greedy : Bool) (c : Course) (n : ℕ) (s t : Stand)
+    → slice_get states f ≡ Some (choice_of greedy first next) → Follows states first f c → Turns (GoesNew x c) f n s t → HasPath states x end m next t
     → HasPath states x end m f s
-turns_back states x end m f first next often c zero s t is oc g w =
-    choice_back states x end m f first next often s next is g.0 (inr refl) (subst (λ (k : Stand). HasPath states x end m next k) g.1 w)
-turns_back states x end m f first next often c (suc n) s t is oc g w =
-    choice_back states x end m f first next often s first is g.0 (inl refl)
-    (oc.back x end m (chosen f s) g.1 g.2 (turns_back states x end m f first next often c n g.1 t is oc g.3 w))
+turns_back states x end m f first next greedy c zero s t is oc g w =
+    choice_back states x end m f first next greedy s next is g.0 (inr refl) (subst (λ (k : Stand). HasPath states x end m next k) g.1 w)
+turns_back states x end m f first next greedy c (suc n) s t is oc g w =
+    choice_back states x end m f first next greedy s first is g.0 (inl refl)
+    (oc.back x end m (chosen f s) g.1 g.2 (turns_back states x end m f first next greedy c n g.1 t is oc g.3 w))
 
-turn_again : (states : List State) (x : Subject) (end m f first next : ℕ) (often : Bool) (c : Course) (s : Stand) (most : ℕ) (last : ℕ × Stand)
-    → slice_get states f ≡ Some (choice_of often first next) → Follows states first f c
+turn_again : (states : List State) (x : Subject) (end m f first next : ℕ) (greedy : Bool) (c : Course) (s : Stand) (most : ℕ) (last : ℕ × Stand)
+    → slice_get states f ≡ Some (choice_of greedy first next) → Follows states first f c
     → ((t : Stand) (rest : List ℕ) → length rest < most → Least states x end m f t rest
-    → FirstThrough states x end m next (Turn f often c) t (length rest) (arrive states f t rest))
-    → IsNew f s → (often ≡ false → HasPath states x end m next (chosen f s) → ⊥) → Way states x end m f first s most last
-    → FirstThrough states x end m next (Turn f often c) s most last
-turn_again states x end m f first next often c s most last is oc again new unwanted v =
+    → FirstThrough states x end m next (Turn f greedy c) t (length rest) (arrive states f t rest))
+    → IsNew f s → (greedy ≡ false → HasPath states x end m next (chosen f s) → ⊥) → Way states x end m f first s most last
+    → FirstThrough states x end m next (Turn f greedy c) s most last
+turn_again states x end m f first next greedy c s most last is oc again new unwanted v =
     let g = oc.goes x end m (chosen f s) v.rest v.least in
     let h = again g.to g.rest (omega (arith, v.fewer, g.fewer)) g.least in
     record {
@@ -434,8 +443,8 @@ turn_again states x end m f first next often c s most last is oc again new unwan
           g.to,
           new-alike x c (HasPath states x end m f) (Reaches (HasPath states x end m next) (SomeTurns (GoesNew x c) f)) (chosen f s) g.to
               (λ k w.
-              let t = turns_through states x end m f first next (suc (length w.0)) often c k w.0 is oc (omega arith) w.1 in (t.to, t.goes, (t.rest, t.path)))
-              (λ k r. turns_back states x end m f first next often c r.1.0 k r.0 is oc r.1.1 r.2) g.first,
+              let t = turns_through states x end m f first next (suc (length w.0)) greedy c k w.0 is oc (omega arith) w.1 in (t.to, t.goes, (t.rest, t.path)))
+              (λ k r. turns_back states x end m f first next greedy c r.1.0 k r.0 is oc r.1.1 r.2) g.first,
           h.first.1,
         ),
       );
@@ -444,11 +453,11 @@ turn_again states x end m f first next often c s most last is oc again new unwan
       fewer = omega (arith, v.fewer, g.fewer, h.fewer);
     }
 
-turn_over : (states : List State) (x : Subject) (end m f first next : ℕ) (often : Bool) (c : Course) (s : Stand) (most : ℕ) (last : ℕ × Stand)
-    → slice_get states f ≡ Some (choice_of often first next) → Follows states first f c → IsNew f s
-    → (often ≡ true → HasPath states x end m first (chosen f s) → ⊥) → Way states x end m f next s most last
-    → FirstThrough states x end m next (Turn f often c) s most last
-turn_over states x end m f first next often c s most last is oc new none v = record {
+turn_over : (states : List State) (x : Subject) (end m f first next : ℕ) (greedy : Bool) (c : Course) (s : Stand) (most : ℕ) (last : ℕ × Stand)
+    → slice_get states f ≡ Some (choice_of greedy first next) → Follows states first f c → IsNew f s
+    → (greedy ≡ true → HasPath states x end m first (chosen f s) → ⊥) → Way states x end m f next s most last
+    → FirstThrough states x end m next (Turn f greedy c) s most last
+turn_over states x end m f first next greedy c s most last is oc new none v = record {
   to = chosen f s;
   rest = v.rest;
   first = (
@@ -457,7 +466,7 @@ turn_over states x end m f first next often c s most last is oc new none v = rec
       new,
       refl,
       (v.rest, v.least.path),
-      λ e r. none e (oc.back x end m (chosen f s) r.0 r.1 (turns_back states x end m f first next often c r.2.1.0 r.0 r.2.0 is oc r.2.1.1 r.2.2)),
+      λ e r. none e (oc.back x end m (chosen f s) r.0 r.1 (turns_back states x end m f first next greedy c r.2.1.0 r.0 r.2.0 is oc r.2.1.1 r.2.2)),
     ),
   );
   least = v.least;
@@ -465,10 +474,10 @@ turn_over states x end m f first next often c s most last is oc new none v = rec
   fewer = omega (arith, v.fewer);
 }
 
-turns_goes : (states : List State) (x : Subject) (end m f first next fuel : ℕ) (often : Bool) (c : Course) (s : Stand) (rest : List ℕ)
-    → slice_get states f ≡ Some (choice_of often first next) → Follows states first f c → length rest < fuel → Least states x end m f s rest
-    → FirstThrough states x end m next (Turn f often c) s (length rest) (arrive states f s rest)
-turns_goes states x end m f first next zero often c s rest is oc l least = absurd (omega (arith, l))
+turns_goes : (states : List State) (x : Subject) (end m f first next fuel : ℕ) (greedy : Bool) (c : Course) (s : Stand) (rest : List ℕ)
+    → slice_get states f ≡ Some (choice_of greedy first next) → Follows states first f c → length rest < fuel → Least states x end m f s rest
+    → FirstThrough states x end m next (Turn f greedy c) s (length rest) (arrive states f s rest)
+turns_goes states x end m f first next zero greedy c s rest is oc l least = absurd (omega (arith, l))
 turns_goes states x end m f first next (suc fuel) true c s rest is oc l least =
     let e = from_fork states x end m f first next s rest is least in
     ⊎_elim
@@ -489,19 +498,19 @@ turns_goes states x end m f first next (suc fuel) false c s rest is oc l least =
     e.1
 
 -- a loop that is entered by its turn
-pub Follows-turn : (states : List State) (f first next : ℕ) (often : Bool) (c : Course) → slice_get states f ≡ Some (choice_of often first next)
-    → Follows states first f c → Follows states f next (Turn f often c)
-Follows-turn states f first next often c is oc = record {
-  through = λ x end m s rest w. turns_through states x end m f first next (suc (length rest)) often c s rest is oc (omega arith) w;
-  back = λ x end m s t g w. turns_back states x end m f first next often c g.0 s t is oc g.1 w;
-  goes = λ x end m s rest l. turns_goes states x end m f first next (suc (length rest)) often c s rest is oc (omega arith) l;
+pub Follows-turn : (states : List State) (f first next : ℕ) (greedy : Bool) (c : Course) → slice_get states f ≡ Some (choice_of greedy first next)
+    → Follows states first f c → Follows states f next (Turn f greedy c)
+Follows-turn states f first next greedy c is oc = record {
+  through = λ x end m s rest w. turns_through states x end m f first next (suc (length rest)) greedy c s rest is oc (omega arith) w;
+  back = λ x end m s t g w. turns_back states x end m f first next greedy c g.0 s t is oc g.1 w;
+  goes = λ x end m s rest l. turns_goes states x end m f first next (suc (length rest)) greedy c s rest is oc (omega arith) l;
 }
 
 -- a loop that is entered by its first round
-pub Follows-again : (states : List State) (f first next : ℕ) (often : Bool) (c : Course) → slice_get states f ≡ Some (choice_of often first next)
-    → Follows states first f c → Follows states first next (Again f often c)
-Follows-again states f first next often c is oc =
-    let o = Follows-after states first f next c (Turn f often c) oc (Follows-turn states f first next often c is oc) in
+pub Follows-again : (states : List State) (f first next : ℕ) (greedy : Bool) (c : Course) → slice_get states f ≡ Some (choice_of greedy first next)
+    → Follows states first f c → Follows states first next (Again f greedy c)
+Follows-again states f first next greedy c is oc =
+    let o = Follows-after states first f next c (Turn f greedy c) oc (Follows-turn states f first next greedy c is oc) in
     record {
       through = λ x end m s rest w.
           let g = o.through x end m s rest w in

@@ -13,17 +13,17 @@ reaches-more Wanted Other R more s r = (r.0, r.1, more r.0 r.2)
 abbrev IsAlike : ((Stand → Type 0) → Stand → Stand → Type 0) → Type 1
 IsAlike First = (Wanted Other : Stand → Type 0) (s t : Stand) → IsMoreAt Wanted Other → IsMoreAt Other Wanted → First Wanted s t → First Other s t
 
-turns-alike : (First : (Stand → Type 0) → Stand → Stand → Type 0) (R : Stand → Stand → Type 0) (w : ℕ) (often : Bool) → IsAlike First → (n : ℕ)
-    → IsAlike (λ Such k l. FirstTurns First R w often n Such k l)
-turns-alike First R w often alike zero Wanted Other s t more less f =
+turns-alike : (First : (Stand → Type 0) → Stand → Stand → Type 0) (R : Stand → Stand → Type 0) (w : ℕ) (greedy : Bool) → IsAlike First → (n : ℕ)
+    → IsAlike (λ Such k l. FirstTurns First R w greedy n Such k l)
+turns-alike First R w greedy alike zero Wanted Other s t more less f =
     (f.0, f.1, more t f.2, λ e r. f.3 e (r.0, r.1, reaches-more Other Wanted (SomeTurns R w) less r.0 r.2))
-turns-alike First R w often alike (suc n) Wanted Other s t more less f = (
+turns-alike First R w greedy alike (suc n) Wanted Other s t more less f = (
   f.0,
   λ e o. f.1 e (less (chosen w s) o),
   f.2,
   alike (Reaches Wanted (SomeTurns R w)) (Reaches Other (SomeTurns R w)) (chosen w s) f.2 (reaches-more Wanted Other (SomeTurns R w) more)
       (reaches-more Other Wanted (SomeTurns R w) less) f.3,
-  turns-alike First R w often alike n Wanted Other f.2 t more less f.4,
+  turns-alike First R w greedy alike n Wanted Other f.2 t more less f.4,
 )
 
 pub new-alike : (x : Subject) (c : Course) → IsAlike (λ Such k l. IsFirstNew x c Such k l)
@@ -45,14 +45,14 @@ new-alike x (Choose w c d) Wanted Other s t more less f = (
       inr (λ r. g.0 (reaches-more Other Wanted (GoesNew x c) less (chosen w s) r), new-alike x d Wanted Other (chosen w s) t more less g.1))
       f.1,
 )
-new-alike x (Turn w often c) Wanted Other s t more less f =
-    (f.0, turns-alike (λ Such k l. IsFirstNew x c Such k l) (GoesNew x c) w often (new-alike x c) f.0 Wanted Other s t more less f.1)
-new-alike x (Again w often c) Wanted Other s t more less f = (
+new-alike x (Turn w greedy c) Wanted Other s t more less f =
+    (f.0, turns-alike (λ Such k l. IsFirstNew x c Such k l) (GoesNew x c) w greedy (new-alike x c) f.0 Wanted Other s t more less f.1)
+new-alike x (Again w greedy c) Wanted Other s t more less f = (
   f.0,
   new-alike x c (Reaches Wanted (SomeTurns (GoesNew x c) w)) (Reaches Other (SomeTurns (GoesNew x c) w)) s f.0
       (reaches-more Wanted Other (SomeTurns (GoesNew x c) w) more) (reaches-more Other Wanted (SomeTurns (GoesNew x c) w) less) f.1,
   f.2,
-  turns-alike (λ Such k l. IsFirstNew x c Such k l) (GoesNew x c) w often (new-alike x c) f.2 Wanted Other f.0 t more less f.3,
+  turns-alike (λ Such k l. IsFirstNew x c Such k l) (GoesNew x c) w greedy (new-alike x c) f.2 Wanted Other f.0 t more less f.3,
 )
 new-alike x (Within slot c) Wanted Other s t more less f = (
   f.0,

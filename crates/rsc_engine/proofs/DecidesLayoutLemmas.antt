@@ -26,7 +26,7 @@ module _ (e : Search) (i : ℕ) (claim : ℕ × ℕ → Type 0) where
   decides-unseen seen rest [] none d = d
   decides-unseen seen rest (t ∷ list) none d = (
     λ run b. d.0 run (record {
-      is_open = record { is_match = b.is_open.is_match; avoids = λ k l h. refl };
+      is_unseen = record { is_match = b.is_unseen.is_match; avoids = λ k l h. refl };
       once = b.once;
       first = λ other m once. b.first other (record { is_match = m.is_match; avoids = λ k l h. none (place other k).0 }) once;
     }),
@@ -71,11 +71,11 @@ module _ (e : Search) (i : ℕ) (claim : ℕ × ℕ → Type 0) where
   pub decides-fork : (seen after : ℕ → Bool) (s a b : ℕ) (rest : Type 0) (list : List ℕ) → IsMore seen s after → seen s ≡ false → IsPlace e (s, i)
       → slice_get e.states s ≡ Some (Fork a b) → Decides e i seen claim rest (s ∷ list) → Decides e i after claim rest (a ∷ b ∷ list)
   decides-fork seen after s a b rest list g fresh there is d = (
-    λ run best. claim-after (s, i) run best.is_open.is_match.some (d.0 ((s, i) ∷ run)
+    λ run best. claim-after (s, i) run best.is_unseen.is_match.some (d.0 ((s, i) ∷ run)
         (best-before e i seen after s a run g fresh there (rw is (inl refl, refl)) stays
         (λ c f fork apart. absurd (apart (first_of_fork a b c f (sym is ∙ fork)))) best)),
     λ none. (
-      λ run best. claim-after (s, i) run best.is_open.is_match.some (d.0 ((s, i) ∷ run)
+      λ run best. claim-after (s, i) run best.is_unseen.is_match.some (d.0 ((s, i) ∷ run)
           (best-before e i seen after s b run g fresh there (rw is (inr refl, refl)) stays
           (λ c f fork apart. subst (λ (n : ℕ). IsHopeless e i after n) (first_of_fork a b c f (sym is ∙ fork)) none) best)),
       λ other. decides-more seen after s rest list g (hopeless none other) (d.1 (hopeless none other)),
@@ -100,7 +100,7 @@ module _ (e : Search) (i : ℕ) (claim : ℕ × ℕ → Type 0) where
       → ((q : ℕ × ℕ) → Leads e (s, i) q → q ≡ (t, i))
       → Decides e i seen claim rest (s ∷ list) → Decides e i after claim rest (t ∷ list)
   decides-single seen after s t rest list g fresh there rejected no_fork leads only d = (
-    λ run best. claim-after (s, i) run best.is_open.is_match.some (d.0 ((s, i) ∷ run)
+    λ run best. claim-after (s, i) run best.is_unseen.is_match.some (d.0 ((s, i) ∷ run)
         (best-before e i seen after s t run g fresh there leads (λ q l. ap (λ (r : ℕ × ℕ). r.1) (only q l))
         (λ a b fork apart. absurd (no_fork a b fork)) best)),
     λ none. decides-more seen after s rest list g (hopeless none) (d.1 (hopeless none)),
@@ -127,7 +127,7 @@ module _ (e : Search) (i : ℕ) (claim : ℕ × ℕ → Type 0) where
       → ((q : ℕ × ℕ) → Leads e (s, i) q → q ≡ (t, i + 1))
       → Decides e i seen claim rest (s ∷ list) → Decides e (i + 1) unseen claim (Decides e i after claim rest list) (t ∷ [])
   decides-over seen after s t rest list g fresh there rejected no_fork leads only d = (
-    λ run best. claim-after (s, i) run best.is_open.is_match.some (d.0 ((s, i) ∷ run)
+    λ run best. claim-after (s, i) run best.is_unseen.is_match.some (d.0 ((s, i) ∷ run)
         (best-over e i seen s t run fresh there leads no_fork best)),
     λ none. decides-more seen after s rest list g (hopeless none) (d.1 (hopeless none)),
   )
@@ -142,7 +142,7 @@ module _ (e : Search) (i : ℕ) (claim : ℕ × ℕ → Type 0) where
   pub decides-match : (seen : ℕ → Bool) (s : ℕ) (rest : Type 0) (list : List ℕ) → seen s ≡ false → IsPlace e (s, i) → accepts e (s, i) ≡ true
       → Decides e i seen claim rest (s ∷ list) → claim (s, i)
   decides-match seen s rest list fresh there accepted d = d.0 ((s, i) ∷ []) (record {
-    is_open = record { is_match = match-one e (s, i) there accepted; avoids = avoids-one i seen (s, i) fresh };
+    is_unseen = record { is_match = match-one e (s, i) there accepted; avoids = avoids-one i seen (s, i) fresh };
     once = λ j k l h. absurd (omega (arith, l, h));
     first = λ other m once b. absurd (omega (arith, b.other_within));
   })
@@ -156,7 +156,7 @@ first-end e i run may none best = record {
   is_first = record {
     begins = rw here may;
     preferred = rw here (record {
-      is_match = best.is_open.is_match;
+      is_match = best.is_unseen.is_match;
       once = best.once;
       first = λ other m once. best.first other (record { is_match = m; avoids = λ k l h. refl }) once;
     });
@@ -166,7 +166,7 @@ first-end e i run may none best = record {
 }
   where
     here : (place run 0).1 ≡ i
-    here = ap (λ (q : ℕ × ℕ). q.1) best.is_open.is_match.begins
+    here = ap (λ (q : ℕ × ℕ). q.1) best.is_unseen.is_match.begins
 
 pub none-more : (e : Search) (i : ℕ) → ((at : ℕ) → e.start ≤ at → at < i → HasNoMatch e at) → IsHopeless e i unseen e.start_state
     → (at : ℕ) → e.start ≤ at → at < i + 1 → HasNoMatch e at

@@ -10,7 +10,7 @@ use Rattle.rsc_engine.specs.Preferred.{HasNone}
 use Rattle.rsc_engine.specs.Ends.{IsMatchEnd, IsEarliestEnd}
 use Rattle.rsc_engine.specs.OrderedLayout.{IsEndOf}
 use Rattle.rsc_engine.specs.PassesLayout.{Status, Open, Closed, answer_of, IsFound, IsDue}
-use Rattle.rsc_engine.specs.ForwardLayout.{last_with, IsHeld, IsGoing, StandsForward, StandsInEach, up_to}
+use Rattle.rsc_engine.specs.ForwardLayout.{last_with, IsHeld, IsGoing, StandsForward, StandsInEach, search_up_to}
 use Rattle.rsc_engine.proofs.RunsLemmas.{run-rises, match-wider}
 
 -- a step within both ends
@@ -29,7 +29,7 @@ step-to states t W h end last p q high step = go (slice_get states p.0) step
 
 -- a match within the part up to an end
 pub match-down : (e : Search) (t : ℕ) (from : ℕ × ℕ) (run : List (ℕ × ℕ)) → (place run (length run - 1)).1 ≤ t → IsMatchRun e from run
-    → IsMatchRun (up_to e t) from run
+    → IsMatchRun (search_up_to e t) from run
 match-down e t from run high m = record {
   is_run = record {
     places = λ k l. let there = m.is_run.places k l in (there.0, there.1, below k l);
@@ -44,10 +44,10 @@ match-down e t from run high m = record {
     below k l = omega (arith, high, run-rises e run k (length run - 1) m.is_run (omega (arith, l)) (omega (arith, l)))
 
 -- without a match up to an end none ends there or before
-none-ends : (e : Search) (t j : ℕ) → j ≤ t → HasNone (up_to e t) → ¬ (IsMatchEnd e j)
+none-ends : (e : Search) (t j : ℕ) → j ≤ t → HasNone (search_up_to e t) → ¬ (IsMatchEnd e j)
 none-ends e t j le none x = none x.from (record { start = x.begins.start; end = omega (arith, from, here); anchored = x.begins.anchored }) x.run down
   where
-    down : IsMatchRun (up_to e t) (e.start_state, x.from) x.run
+    down : IsMatchRun (search_up_to e t) (e.start_state, x.from) x.run
     down = match-down e t (e.start_state, x.from) x.run (omega (arith, x.ends, le)) x.is_match
 
     from : (place x.run 0).1 ≡ x.from
@@ -100,10 +100,11 @@ answered-none e None x = x
 answered-none e (Some f) x = tt
 
 -- a match that was found at the last position up to an end ends there
-mark-ends : (e : Search) (p at : ℕ) (begins : Bool) (list : List ℕ) → at ≤ e.end → IsGoing (up_to e at) (at + 1) begins (Some (p, at)) list → IsMatchEnd e at
+mark-ends : (e : Search) (p at : ℕ) (begins : Bool) (list : List ℕ) → at ≤ e.end
+    → IsGoing (search_up_to e at) (at + 1) begins (Some (p, at)) list → IsMatchEnd e at
 mark-ends e p at begins list high g = go g.status g.held (g.over (omega arith))
   where
-    go : (status : Status) → IsHeld (up_to e at) status begins (Some (p, at)) → IsFound (up_to e at) (answer_of status) → IsMatchEnd e at
+    go : (status : Status) → IsHeld (search_up_to e at) status begins (Some (p, at)) → IsFound (search_up_to e at) (answer_of status) → IsMatchEnd e at
     go Open held found = absurd (none-some held.1)
     go (Closed None) held found = absurd (none-some held.1)
     go (Closed (Some q)) held found = record {
@@ -129,10 +130,10 @@ first-mark e classes old new k next p at low high before after = record {
   none_before = λ j l.
       let past : at - 1 < at = omega (arith, l) in
       let was = before (at - 1) (omega (arith, l)) (omega (arith, high)) in
-      none-ends e (at - 1) j (omega (arith, l)) (going-past-end (up_to e (at - 1)) at was.row.begins None was.row.list.items past was.going);
+      none-ends e (at - 1) j (omega (arith, l)) (going-past-end (search_up_to e (at - 1)) at was.row.begins None was.row.list.items past was.going);
 }
   where
-    now : at ≤ e.end → StandsForward (up_to e at) classes new next (at + 1) (Some (p, at))
+    now : at ≤ e.end → StandsForward (search_up_to e at) classes new next (at + 1) (Some (p, at))
     now l = after at (omega arith) l
 
 pub first-marked : (e : Search) (classes : List ℕ) (old new : List PassRow) (k next at : ℕ) (found : Option ℕ) (last now : Option (ℕ × ℕ)) → e.start ≤ at

@@ -55,15 +55,15 @@ once_more min n (Some max) may l = ⊎_elim
     there some h (inl l) = inr (omega (arith, l, h))
     there some h (inr e) = inl (omega (arith, some, h, e))
 
-times-end : (First : (ℕ → Type 0) → ℕ → ℕ → Type 0) (R : ℕ → ℕ → Type 0) (often : Bool) → IsEnd First R → (n min : ℕ) (max : Option ℕ)
-    (Wanted : ℕ → Type 0) (i j : ℕ) → AreFirstTimes First R often n min max Wanted i j → (min ≤ n) × IsAtMost min max n × Times R n i j × Wanted j
-times-end First R often end zero min max Wanted i j f = (omega (arith, f.0), none max, f.1, f.2)
+times-end : (First : (ℕ → Type 0) → ℕ → ℕ → Type 0) (R : ℕ → ℕ → Type 0) (greedy : Bool) → IsEnd First R → (n min : ℕ) (max : Option ℕ)
+    (Wanted : ℕ → Type 0) (i j : ℕ) → AreFirstTimes First R greedy n min max Wanted i j → (min ≤ n) × IsAtMost min max n × Times R n i j × Wanted j
+times-end First R greedy end zero min max Wanted i j f = (omega (arith, f.0), none max, f.1, f.2)
   where
     none : (max : Option ℕ) → IsAtMost min max 0
     none None = tt
     none (Some max) = inl (omega arith)
-times-end First R often end (suc n) min max Wanted i j f =
-    let rest = times-end First R often end n (min - 1) (limit_after max) Wanted f.2 j f.4 in
+times-end First R greedy end (suc n) min max Wanted i j f =
+    let rest = times-end First R greedy end n (min - 1) (limit_after max) Wanted f.2 j f.4 in
     let one = end (HasEndIn Wanted (SomeTimes R (min - 1) (limit_after max))) i f.2 f.3 in
     (omega (arith, rest.0), once_more min n max f.0 rest.1, (f.2, one.0, rest.2), rest.3)
 
@@ -80,8 +80,8 @@ first-end x (Either a b) Wanted i j f = ⊎_elim
     (λ (g : IsFirstEnd x a Wanted i j). let e = first-end x a Wanted i j g in (inl e.0, e.1))
     (λ (g : (HasEndIn Wanted (Goes x a) i → ⊥) × IsFirstEnd x b Wanted i j). let e = first-end x b Wanted i j g.1 in (inr e.0, e.1))
     f
-first-end x (Repeat min max often a) Wanted i j f =
-    let e = times-end (λ Such k l. IsFirstEnd x a Such k l) (Goes x a) often (first-end x a) f.0 min max Wanted i j f.1 in
+first-end x (Repeat min max greedy a) Wanted i j f =
+    let e = times-end (λ Such k l. IsFirstEnd x a Such k l) (Goes x a) greedy (first-end x a) f.0 min max Wanted i j f.1 in
     ((f.0, e.0, e.1, e.2), e.3)
 first-end x (Group slot a) Wanted i j f = first-end x a Wanted i j f
 
@@ -91,22 +91,22 @@ abbrev IsOne : ((ℕ → Type 0) → ℕ → ℕ → Type 0) → Type 1
 IsOne First = (Wanted : ℕ → Type 0) (i j k : ℕ) → First Wanted i j → First Wanted i k → j ≡ k
 
 -- where it comes no more it doesn't come once more
-over_or_more : (First : (ℕ → Type 0) → ℕ → ℕ → Type 0) (R : ℕ → ℕ → Type 0) (often : Bool) → IsEnd First R → (n min : ℕ) (max : Option ℕ)
-    (Wanted : ℕ → Type 0) (i j k : ℕ) → AreFirstTimes First R often zero min max Wanted i j → AreFirstTimes First R often (suc n) min max Wanted i k → ⊥
+over_or_more : (First : (ℕ → Type 0) → ℕ → ℕ → Type 0) (R : ℕ → ℕ → Type 0) (greedy : Bool) → IsEnd First R → (n min : ℕ) (max : Option ℕ)
+    (Wanted : ℕ → Type 0) (i j k : ℕ) → AreFirstTimes First R greedy zero min max Wanted i j → AreFirstTimes First R greedy (suc n) min max Wanted i k → ⊥
 over_or_more First R true end n min max Wanted i j k f g =
     let one = end (HasEndIn Wanted (SomeTimes R (min - 1) (limit_after max))) i g.2 g.3 in
     f.3 refl (g.0, (g.2, one.0, one.1))
 over_or_more First R false end n min max Wanted i j k f g = g.1 refl f.0 (subst Wanted (sym f.1) f.2)
 
-times-one : (First : (ℕ → Type 0) → ℕ → ℕ → Type 0) (R : ℕ → ℕ → Type 0) (often : Bool) → IsEnd First R → IsOne First → (n m min : ℕ) (max : Option ℕ)
-    (Wanted : ℕ → Type 0) (i j k : ℕ) → AreFirstTimes First R often n min max Wanted i j → AreFirstTimes First R often m min max Wanted i k → j ≡ k
-times-one First R often end one zero zero min max Wanted i j k f g = sym f.1 ∙ g.1
-times-one First R often end one zero (suc m) min max Wanted i j k f g = absurd (over_or_more First R often end m min max Wanted i j k f g)
-times-one First R often end one (suc n) zero min max Wanted i j k f g = absurd (over_or_more First R often end n min max Wanted i k j g f)
-times-one First R often end one (suc n) (suc m) min max Wanted i j k f g =
+times-one : (First : (ℕ → Type 0) → ℕ → ℕ → Type 0) (R : ℕ → ℕ → Type 0) (greedy : Bool) → IsEnd First R → IsOne First → (n m min : ℕ) (max : Option ℕ)
+    (Wanted : ℕ → Type 0) (i j k : ℕ) → AreFirstTimes First R greedy n min max Wanted i j → AreFirstTimes First R greedy m min max Wanted i k → j ≡ k
+times-one First R greedy end one zero zero min max Wanted i j k f g = sym f.1 ∙ g.1
+times-one First R greedy end one zero (suc m) min max Wanted i j k f g = absurd (over_or_more First R greedy end m min max Wanted i j k f g)
+times-one First R greedy end one (suc n) zero min max Wanted i j k f g = absurd (over_or_more First R greedy end n min max Wanted i k j g f)
+times-one First R greedy end one (suc n) (suc m) min max Wanted i j k f g =
     let same = one (HasEndIn Wanted (SomeTimes R (min - 1) (limit_after max))) i g.2 f.2 g.3 f.3 in
-    times-one First R often end one n m (min - 1) (limit_after max) Wanted f.2 j k f.4
-    (subst (λ (l : ℕ). AreFirstTimes First R often m (min - 1) (limit_after max) Wanted l k) same g.4)
+    times-one First R greedy end one n m (min - 1) (limit_after max) Wanted f.2 j k f.4
+    (subst (λ (l : ℕ). AreFirstTimes First R greedy m (min - 1) (limit_after max) Wanted l k) same g.4)
 
 pub bytes-one : (h bytes : List ℕ) (i j k : ℕ) → AreBytes h bytes i j → AreBytes h bytes i k → j ≡ k
 bytes-one h [] i j k f g = sym f ∙ g
@@ -125,8 +125,8 @@ first-one x (Either a b) Wanted i j k (inl f) (inl g) = first-one x a Wanted i j
 first-one x (Either a b) Wanted i j k (inl f) (inr g) = let e = first-end x a Wanted i j f in absurd (g.0 (j, e.0, e.1))
 first-one x (Either a b) Wanted i j k (inr f) (inl g) = let e = first-end x a Wanted i k g in absurd (f.0 (k, e.0, e.1))
 first-one x (Either a b) Wanted i j k (inr f) (inr g) = first-one x b Wanted i j k f.1 g.1
-first-one x (Repeat min max often a) Wanted i j k f g =
-    times-one (λ Such l m. IsFirstEnd x a Such l m) (Goes x a) often (first-end x a) (first-one x a) f.0 g.0 min max Wanted i j k f.1 g.1
+first-one x (Repeat min max greedy a) Wanted i j k f g =
+    times-one (λ Such l m. IsFirstEnd x a Such l m) (Goes x a) greedy (first-end x a) (first-one x a) f.0 g.0 min max Wanted i j k f.1 g.1
 first-one x (Group slot a) Wanted i j k f g = first-one x a Wanted i j k f g
 
 -- ---- loops of patterns made of patterns
@@ -139,7 +139,7 @@ pub both_are : (a b : Bool) → (a && b) ≡ true → (a ≡ true) × (b ≡ tru
 both_are true b h = (refl, h)
 both_are false b h = absurd (true≢false (sym h))
 
-optional-loops : (often : Bool) (p : Pattern) → loops_take_bytes p ≡ true → loops_take_bytes (optional often p) ≡ true
+optional-loops : (greedy : Bool) (p : Pattern) → loops_take_bytes p ≡ true → loops_take_bytes (optional greedy p) ≡ true
 optional-loops true p e = both (loops_take_bytes p) true e refl
 optional-loops false p e = e
 
@@ -147,28 +147,28 @@ copies-loops : (n : ℕ) (p : Pattern) → loops_take_bytes p ≡ true → loops
 copies-loops zero p e = refl
 copies-loops (suc n) p e = both (loops_take_bytes p) (loops_take_bytes (copies n p)) e (copies-loops n p e)
 
-pub up_to-loops : (often : Bool) (n : ℕ) (p : Pattern) → loops_take_bytes p ≡ true → loops_take_bytes (up_to often n p) ≡ true
-up_to-loops often zero p e = refl
-up_to-loops often (suc n) p e =
-    optional-loops often (Then p (up_to often n p)) (both (loops_take_bytes p) (loops_take_bytes (up_to often n p)) e (up_to-loops often n p e))
+pub up_to-loops : (greedy : Bool) (n : ℕ) (p : Pattern) → loops_take_bytes p ≡ true → loops_take_bytes (up_to greedy n p) ≡ true
+up_to-loops greedy zero p e = refl
+up_to-loops greedy (suc n) p e =
+    optional-loops greedy (Then p (up_to greedy n p)) (both (loops_take_bytes p) (loops_take_bytes (up_to greedy n p)) e (up_to-loops greedy n p e))
 
-pub part-loops : (min : ℕ) (max : Option ℕ) (often : Bool) (p : Pattern) → loops_take_bytes (Repeat min max often p) ≡ true → loops_take_bytes p ≡ true
-part-loops min None often p e = (both_are (not (may_be_empty p)) (loops_take_bytes p) e).1
-part-loops min (Some max) often p e = e
+pub part-loops : (min : ℕ) (max : Option ℕ) (greedy : Bool) (p : Pattern) → loops_take_bytes (Repeat min max greedy p) ≡ true → loops_take_bytes p ≡ true
+part-loops min None greedy p e = (both_are (not (may_be_empty p)) (loops_take_bytes p) e).1
+part-loops min (Some max) greedy p e = e
 
-pub loop-takes : (min : ℕ) (often : Bool) (p : Pattern) → loops_take_bytes (Repeat min None often p) ≡ true → may_be_empty p ≡ false
-loop-takes min often p e = not_true (may_be_empty p) ((both_are (not (may_be_empty p)) (loops_take_bytes p) e).0)
+pub loop-takes : (min : ℕ) (greedy : Bool) (p : Pattern) → loops_take_bytes (Repeat min None greedy p) ≡ true → may_be_empty p ≡ false
+loop-takes min greedy p e = not_true (may_be_empty p) ((both_are (not (may_be_empty p)) (loops_take_bytes p) e).0)
   where
     not_true : (b : Bool) → not b ≡ true → b ≡ false
     not_true true h = absurd (true≢false (sym h))
     not_true false h = refl
 
-pub counted-loops : (n m : ℕ) (max : Option ℕ) (often : Bool) (p : Pattern) → loops_take_bytes (Repeat (n + m) max often p) ≡ true
-    → loops_take_bytes (Then (copies n p) (Repeat m (limit_less max n) often p)) ≡ true
-counted-loops n m max often p e =
-    both (loops_take_bytes (copies n p)) (loops_take_bytes (Repeat m (limit_less max n) often p)) (copies-loops n p (part-loops (n + m) max often p e))
+pub counted-loops : (n m : ℕ) (max : Option ℕ) (greedy : Bool) (p : Pattern) → loops_take_bytes (Repeat (n + m) max greedy p) ≡ true
+    → loops_take_bytes (Then (copies n p) (Repeat m (limit_less max n) greedy p)) ≡ true
+counted-loops n m max greedy p e =
+    both (loops_take_bytes (copies n p)) (loops_take_bytes (Repeat m (limit_less max n) greedy p)) (copies-loops n p (part-loops (n + m) max greedy p e))
     (rest max e)
   where
-    rest : (max : Option ℕ) → loops_take_bytes (Repeat (n + m) max often p) ≡ true → loops_take_bytes (Repeat m (limit_less max n) often p) ≡ true
+    rest : (max : Option ℕ) → loops_take_bytes (Repeat (n + m) max greedy p) ≡ true → loops_take_bytes (Repeat m (limit_less max n) greedy p) ≡ true
     rest None h = h
     rest (Some max) h = h

@@ -8,8 +8,8 @@ use Rattle.rsc_nfa.specs.Steps.{StepsTo}
 use Rattle.rsc_engine.specs.Patterns.{Pattern, Group, Subject}
 use Rattle.rsc_engine.specs.LinksLayout.{Aim, Ends}
 use Rattle.rsc_engine.specs.BeginsLayout.{Begins, IsOfOne, IsOfSome}
-use Rattle.rsc_engine.specs.FirstsLayout.{OrdersOne, OrdersSome, TakesFirst, mark_of}
-use Rattle.rsc_engine.specs.Ways.{Mark, GoesWith}
+use Rattle.rsc_engine.specs.FirstsLayout.{OrdersOne, OrdersSome, TakesFirst, point_of}
+use Rattle.rsc_engine.specs.Ways.{Point, GoesWith}
 use Rattle.rsc_engine.specs.GroupNumbers.{numbered}
 use Rattle.rsc_engine.specs.StepsLayout.{AreSteps, last_place}
 use Rattle.rsc_engine.specs.WaysLayout.{finish}
@@ -19,7 +19,7 @@ use Rattle.rsc_engine.proofs.ByWaysLayoutLemmas.{ByWays-group}
 use Rattle.rsc_engine.specs.BeginsLayout.{IsWhole}
 use Rattle.rsc_engine.specs.Courses.{Course, Within, Stand, chosen}
 use Rattle.rsc_engine.specs.PreferredWays.{choices}
-use Rattle.rsc_engine.specs.PathsLayout.{Leads, IsPath, HasPath, arrive}
+use Rattle.rsc_engine.specs.PathsLayout.{PathLeads, IsPath, HasPath, arrive}
 use Rattle.rsc_engine.specs.CoursesLayout.{Follows}
 use Rattle.rsc_engine.specs.TakesLayout.{TakesCourse}
 use Rattle.rsc_engine.proofs.CoursesLemmas.{new-alike}
@@ -40,7 +40,7 @@ stays_there states x end s i q (r ∷ rest) earlier is steps =
 path_stays : (states : List State) (x : Subject) (end m f q : ℕ) (s : Stand) (rest : List ℕ) → slice_get states f ≡ Some (Accept q)
     → IsPath states x end m f s rest → arrive states f s rest ≡ (f, s)
 path_stays states x end m f q s [] is p = refl
-path_stays states x end m f q s (g ∷ rest) is p = absurd (subst (λ (o : Option State). Leads o x end f s g) is p.0)
+path_stays states x end m f q s (g ∷ rest) is p = absurd (subst (λ (o : Option State). PathLeads o x end f s g) is p.0)
 
 pub OrdersOne-is : (states : List State) (slot_of : ℕ → ℕ) (number low high top accept after body first : ℕ) (p : Pattern)
     → IsWhole states number low high accept after body first → ByWays states body after (numbered slot_of 1 p)
@@ -49,7 +49,7 @@ OrdersOne-is states slot_of number low high top accept after body first p w o t 
   through = λ x end from rest v.
       let g = order.through x end number from rest v in
       let there = sym (stays_there states x end accept g.to.0 number g.rest g.to.1 w.accepting g.way.steps) ∙ g.ends in
-      subst (λ (k : Mark). GoesWith x (Group (2 * number) (numbered slot_of 1 p)) from k) (ap mark_of there) g.goes;
+      subst (λ (k : Point). GoesWith x (Group (2 * number) (numbered slot_of 1 p)) from k) (ap point_of there) g.goes;
   course = record { course = course; is = (t.course, refl, t.is); apart = t.numbers.apart };
   below = λ k d m. let its = t.numbers.within k d m in omega (arith, its.1, l);
   takes = λ x end s rest least.
@@ -109,7 +109,7 @@ OrdersOne-first : (states : List State) (slot_of : ℕ → ℕ) (high top s one 
 OrdersOne-first states slot_of high top s one other m p is above l o none = record {
   through = λ x end from rest w. ⊎_elim
       (λ (v : Rest states x end m one from (length rest) (finish states (s, from.0) rest from.1)).
-      subst (λ (k : (ℕ × ℕ) × List (ℕ × ℕ)). GoesWith x (Group (2 * m) (numbered slot_of 1 p)) from (mark_of k)) v.ends (o.through x end from v.rest v.way))
+      subst (λ (k : (ℕ × ℕ) × List (ℕ × ℕ)). GoesWith x (Group (2 * m) (numbered slot_of 1 p)) from (point_of k)) v.ends (o.through x end from v.rest v.way))
       (λ (v : Rest states x end m other from (length rest) (finish states (s, from.0) rest from.1)).
       absurd (none (aim_at x end m (last_place (other, from.0) v.rest)) (length v.rest) from.0 refl
       (way_of states x end m (other, from.0) v.rest v.way.within v.way.steps v.way.accepts)))
@@ -135,7 +135,7 @@ OrdersOne-next states slot_of high top s one other m p is above l o none = recor
       absurd (none (aim_at x end m (last_place (one, from.0) v.rest)) (length v.rest) from.0 refl
       (way_of states x end m (one, from.0) v.rest v.way.within v.way.steps v.way.accepts)))
       (λ (v : Rest states x end m other from (length rest) (finish states (s, from.0) rest from.1)).
-      subst (λ (k : (ℕ × ℕ) × List (ℕ × ℕ)). GoesWith x (Group (2 * m) (numbered slot_of 1 p)) from (mark_of k)) v.ends (o.through x end from v.rest v.way))
+      subst (λ (k : (ℕ × ℕ) × List (ℕ × ℕ)). GoesWith x (Group (2 * m) (numbered slot_of 1 p)) from (point_of k)) v.ends (o.through x end from v.rest v.way))
       (either_way states x end m s one other from rest is w);
   course = o.course;
   below = λ k d b. let its = o.below k d b in omega (arith, its, l);

@@ -6,7 +6,7 @@ use Rattle.rsc_search.specs.declared.anchored.Anchored.TheVariants.{No}
 use Rattle.rsc_engine.specs.declared.dfa.pass_table.PassRow.{PassRow}
 use Rattle.rsc_engine.specs.Searches.{Search}
 use Rattle.rsc_engine.specs.RowsLayout.{machine_of, Alike, IsNear, around, middle}
-use Rattle.rsc_engine.specs.ForwardLayout.{beside, IsAdvanced, last_with, IsGoing, pattern_in, StandsForward, StandsInEach, GoesForward, GoesInEach, up_to}
+use Rattle.rsc_engine.specs.ForwardLayout.{beside, IsAdvanced, last_with, IsGoing, found_in, StandsForward, StandsInEach, GoesForward, GoesInEach, search_up_to}
 use Rattle.rsc_engine.specs.LawfulLayout.{Lawful}
 use Rattle.rsc_engine.specs.PassTableLayout.{IsPassRow, IsPassStep, IsPassTo, IsPassStepAt, unit_at, IsBeyondAt}
 use Rattle.rsc_engine.proofs.LawfulLayoutLemmas.{IsNear-from, IsNear-holding, Alike-self, Alike-trans}
@@ -18,7 +18,7 @@ module _ (e : Search) (classes : List ℕ) where
   stands : (old new : List PassRow) (next i : ℕ) (last : Option (ℕ × ℕ)) (found : Option ℕ) (after : Bool) (list : List ℕ) (other : Option ℕ)
       → Alike classes (byte_after e.haystack i) other → IsPassRow classes new next false e.mode after found other list
       → IsGoing e (i + 1) after (last_with found i last) list
-      → StandsForward e classes new next (i + 1) (last_with (pattern_in (slice_get new next)) i last)
+      → StandsForward e classes new next (i + 1) (last_with (found_in (slice_get new next)) i last)
   stands old new next i last found after list other near r going =
       let same : suc i ≡ i + 1 = omega arith in
       record {
@@ -81,13 +81,14 @@ module _ (e : Search) (classes : List ℕ) where
       let mode : a.from.mode ≡ e.mode = subst (λ (r : PassRow). r.mode ≡ e.mode) same on.same_mode in
       let read : byte_after e.haystack i ≡ x.unit = subst (λ (b : Bool). unit_at b e.haystack i ≡ x.unit) back x.read in
       let other : byte_after a.haystack a.at ≡ x.unit = subst (λ (b : Bool). unit_at b a.haystack a.at ≡ x.unit) back a.read in
-      let near : IsNear (up_to e t) i a.haystack a.at =
-      IsNear-holding w (up_to e t) i a.haystack a.at x.looks (omega (arith, high, within)) (read ∙ sym other) x.holding a.holding in
-      stands (up_to e t) classes old new next i last a.found a.after a.list x.unit (Alike-self classes (byte_after e.haystack i) x.unit (sym read) a.byte)
+      let near : IsNear (search_up_to e t) i a.haystack a.at =
+      IsNear-holding w (search_up_to e t) i a.haystack a.at x.looks (omega (arith, high, within)) (read ∙ sym other) x.holding a.holding in
+      stands (search_up_to e t) classes old new next i last a.found a.after a.list x.unit
+      (Alike-self classes (byte_after e.haystack i) x.unit (sym read) a.byte)
       (subst (λ (m : Anchored). IsPassRow classes new next false m a.after a.found x.unit a.list) mode
       (subst (λ (b : Bool). IsPassRow classes new next b a.from.mode a.after a.found x.unit a.list) back a.is_row))
-      (going-near (up_to e t) i a.haystack a.at a.from.begins last a.from.list.items a.found a.after a.list near
-      (subst (λ (r : PassRow). IsGoing (up_to e t) i r.begins last r.list.items) same on.going) low
+      (going-near (search_up_to e t) i a.haystack a.at a.from.begins last a.from.list.items a.found a.after a.list near
+      (subst (λ (r : PassRow). IsGoing (search_up_to e t) i r.begins last r.list.items) same on.going) low
       (subst (λ (m : Anchored). IsAdvanced (beside (machine_of e) m a.haystack) a.at a.from.begins a.from.list.items a.found a.after a.list) mode
       (subst (λ (b : Bool). IsPassStepAt (machine_of e) a.from.mode b a.haystack a.at a.from.begins a.from.list.items a.found a.after a.list) back a.step)))
 
@@ -95,19 +96,19 @@ module _ (e : Search) (classes : List ℕ) where
   pub each-forward : (width : ℕ) (unicode : Bool) → IsSearched e classes width unicode → (old new : List PassRow) (k i next : ℕ)
       → IsPassTo (machine_of e) classes old new k (byte_after e.haystack i) next → GoesInEach e classes old new k i next
   each-forward width unicode s old new k i next a = λ t low high.
-      goes-forward (up_to e t) classes width unicode (record { laws = s.laws; plan = s.plan; within = omega (arith, high, s.within) })
+      goes-forward (search_up_to e t) classes width unicode (record { laws = s.laws; plan = s.plan; within = omega (arith, high, s.within) })
       old new k i next low a
 
   -- from where a pass stands it goes on
   pub each-on : (old new : List PassRow) (k i next : ℕ) (last : Option (ℕ × ℕ)) → GoesInEach e classes old new k i next
-      → StandsInEach e classes old k i last → StandsInEach e classes new next (i + 1) (last_with (pattern_in (slice_get new next)) i last)
+      → StandsInEach e classes old k i last → StandsInEach e classes new next (i + 1) (last_with (found_in (slice_get new next)) i last)
   each-on old new k i next last goes on = λ t past high. goes t (omega (arith, past)) high last (on t (omega (arith, past)) high)
 
   pub each-first : (rows : List PassRow) (k : ℕ) (begins : Bool) (before : Option ℕ) (list : List ℕ) → before ≡ byte_before e.haystack e.start
       → IsPassRow classes rows k false e.mode begins None before list
       → (begins ≡ true → e.mode ≡ No) → (begins ≡ false → ¬ (e.mode ≡ No)) → list ≡ e.start_state ∷ [] → StandsInEach e classes rows k e.start None
   each-first rows k begins before list is r free anchored one = λ t past high.
-      stands-first (up_to e t) classes rows k e.start begins before list is r (going-first (up_to e t) begins list free anchored one)
+      stands-first (search_up_to e t) classes rows k e.start begins before list is r (going-first (search_up_to e t) begins list free anchored one)
 
 -- what is so of each result, if there is one
 pub map_ok : {X E : Type 0} → (r : Result X E) (P Q : X → Type 0) → ((x : X) → P x → Q x) → IfOk r P → IfOk r Q

@@ -8,7 +8,7 @@ use Rattle.rsc_engine.specs.Runs.{HasNoMatch}
 use Rattle.rsc_engine.specs.Preferred.{HasNone, MayBegin}
 use Rattle.rsc_engine.specs.Ends.{IsLeftmostEnd}
 use Rattle.rsc_engine.specs.DecidesLayout.{unseen, Decides, IsLastPlace}
-use Rattle.rsc_engine.specs.PassesLayout.{Looks, Status, Open, Closed, later, Opens, IsLeftOver, IsDue, placed}
+use Rattle.rsc_engine.specs.PassesLayout.{Scans, Status, Open, Closed, later, Opens, IsLeftOver, IsDue, placed}
 use Rattle.rsc_engine.specs.RowsLayout.{AddsOne, machine_of, IsNear}
 use Rattle.rsc_engine.specs.OrderedLayout.{IsLooked, IsOfPattern, IsEndOf}
 use Rattle.rsc_engine.specs.ForwardLayout.{beside, Continues, IsAdvanced, last_with, IsHeld, IsGoing}
@@ -23,7 +23,7 @@ free_of e (Closed (Some q)) begins last h = inr (λ same. absurd (cc))
 
 -- a position more
 more : (e : Search) (k : ℕ) (status after : Status) (list out next : List ℕ) (found : Option (ℕ × ℕ)) (seen : ℕ → Bool) (begins : Bool)
-    (last : Option (ℕ × ℕ)) → e.start ≤ k → k ≤ e.end → after ≡ later status found → ((s : ℕ) → seen s ≡ false) → Looks e k seen list [] out found
+    (last : Option (ℕ × ℕ)) → e.start ≤ k → k ≤ e.end → after ≡ later status found → ((s : ℕ) → seen s ≡ false) → Scans e k seen list [] out found
     → IsDue e k status list → IsHeld e after begins last → Opens e after out next → IsGoing e (k + 1) begins last next
 more e k status after list out next found seen begins last low high same none looks due held opens = record {
   status = after;
@@ -52,7 +52,7 @@ going-match : (e : Search) (k : ℕ) (begins : Bool) (last : Option (ℕ × ℕ)
     → IsLooked e k list (Some p) out → IsGoing e (k + 1) false (Some (p, k)) out
 going-match e k begins last list p out g high l = go l.found l.looks l.of_pattern
   where
-    go : (found : Option (ℕ × ℕ)) → Looks e k l.seen list [] out found → IsOfPattern e k found (Some p) → IsGoing e (k + 1) false (Some (p, k)) out
+    go : (found : Option (ℕ × ℕ)) → Scans e k l.seen list [] out found → IsOfPattern e k found (Some p) → IsGoing e (k + 1) false (Some (p, k)) out
     go None looks of = absurd of
     go (Some q) looks of =
         more e k g.status (Closed (Some q)) list out out (Some q) l.seen false (Some (p, k)) g.low high refl l.none_seen looks (g.due high)
@@ -62,7 +62,7 @@ going-closed : (e : Search) (k : ℕ) (begins : Bool) (last : Option (ℕ × ℕ
     → begins ≡ false → IsLooked e k list None out → IsGoing e (k + 1) begins last out
 going-closed e k begins last list out g high shut l = go l.found l.looks l.of_pattern g.status g.held (g.due high)
   where
-    go : (found : Option (ℕ × ℕ)) → Looks e k l.seen list [] out found → IsOfPattern e k found None → (status : Status) → IsHeld e status begins last
+    go : (found : Option (ℕ × ℕ)) → Scans e k l.seen list [] out found → IsOfPattern e k found None → (status : Status) → IsHeld e status begins last
         → IsDue e k status list → IsGoing e (k + 1) begins last out
     go (Some q) looks of status held due = absurd of
     go None looks of Open held due = absurd (true≢false (sym held.0 ∙ shut))
@@ -75,7 +75,7 @@ going-open : (e : Search) (k : ℕ) (begins : Bool) (last : Option (ℕ × ℕ))
     → begins ≡ true → IsLooked e k list None out → AddsOne out e.start_state next → IsGoing e (k + 1) begins last next
 going-open e k begins last list out next g high free l adds = go l.found l.looks l.of_pattern g.status g.held (g.due high)
   where
-    go : (found : Option (ℕ × ℕ)) → Looks e k l.seen list [] out found → IsOfPattern e k found None → (status : Status) → IsHeld e status begins last
+    go : (found : Option (ℕ × ℕ)) → Scans e k l.seen list [] out found → IsOfPattern e k found None → (status : Status) → IsHeld e status begins last
         → IsDue e k status list → IsGoing e (k + 1) begins last next
     go (Some q) looks of status held due = absurd of
     go None looks of Open held due =

@@ -8,7 +8,7 @@ use Rattle.rsc_nfa.specs.Steps.{place, IsRun, StepsTo}
 use Rattle.rsc_engine.specs.Searches.{Search}
 use Rattle.rsc_engine.specs.Runs.{Leads, IsPlace, accepts, IsMatchRun}
 use Rattle.rsc_engine.specs.Preferred.{IsOnce, IsPreferredTo}
-use Rattle.rsc_engine.specs.DecidesLayout.{last_of, Avoids, IsOpenMatch, IsHopeless, IsBest, IsMore, unseen}
+use Rattle.rsc_engine.specs.DecidesLayout.{last_of, Avoids, IsUnseenMatch, IsHopeless, IsBest, IsMore, unseen}
 
 -- ---- small facts
 
@@ -138,33 +138,33 @@ Avoids-drop i seen run n a k l h =
     let same : place (drop n run) k ≡ place run (n + k) = get_or-drop n run k (0, 0) in
     ap (λ (q : ℕ × ℕ). seen q.0) same ∙ a (n + k) (omega (arith, l, length-drop n run)) (sym (ap (λ (q : ℕ × ℕ). q.1) same) ∙ h)
 
-pub open-drop : (e : Search) (i : ℕ) (seen : ℕ → Bool) (s t : ℕ) (run : List (ℕ × ℕ)) (n : ℕ) → IsOpenMatch e i seen s run → n < length run
-    → place run n ≡ (t, i) → IsOpenMatch e i seen t (drop n run)
-open-drop e i seen s t run n m l here = record {
+pub unseen-drop : (e : Search) (i : ℕ) (seen : ℕ → Bool) (s t : ℕ) (run : List (ℕ × ℕ)) (n : ℕ) → IsUnseenMatch e i seen s run → n < length run
+    → place run n ≡ (t, i) → IsUnseenMatch e i seen t (drop n run)
+unseen-drop e i seen s t run n m l here = record {
   is_match = subst (λ (q : ℕ × ℕ). IsMatchRun e q (drop n run)) here (match-drop e (s, i) run n m.is_match l);
   avoids = Avoids-drop i seen run n m.avoids;
 }
 
 pub Avoids-more : (e : Search) (i : ℕ) (seen after : ℕ → Bool) (s t : ℕ) (run : List (ℕ × ℕ)) → IsMore seen s after → IsHopeless e i seen s
-    → IsOpenMatch e i seen t run → Avoids i after run
+    → IsUnseenMatch e i seen t run → Avoids i after run
 Avoids-more e i seen after s t run g none m k l h = not_true (after (place run k).0) (λ is. ⊎_elim
-    (λ (same : (place run k).0 ≡ s). none (drop k run) (open-drop e i seen t s run k m l (same_place (place run k) (s, i) same h)))
+    (λ (same : (place run k).0 ≡ s). none (drop k run) (unseen-drop e i seen t s run k m l (same_place (place run k) (s, i) same h)))
     (λ (was : seen (place run k).0 ≡ true). true≢false (sym was ∙ m.avoids k l h))
     (g.only (place run k).0 is))
 
 pub open-more : (e : Search) (i : ℕ) (seen after : ℕ → Bool) (s t : ℕ) (run : List (ℕ × ℕ)) → IsMore seen s after → IsHopeless e i seen s
-    → IsOpenMatch e i seen t run → IsOpenMatch e i after t run
+    → IsUnseenMatch e i seen t run → IsUnseenMatch e i after t run
 open-more e i seen after s t run g none m = record { is_match = m.is_match; avoids = Avoids-more e i seen after s t run g none m }
 
 pub open-less : (e : Search) (i : ℕ) (seen after : ℕ → Bool) (s t : ℕ) (run : List (ℕ × ℕ)) → IsMore seen s after
-    → IsOpenMatch e i after t run → IsOpenMatch e i seen t run
+    → IsUnseenMatch e i after t run → IsUnseenMatch e i seen t run
 open-less e i seen after s t run g m = record { is_match = m.is_match; avoids = Avoids-less i seen after s run g m.avoids }
 
 -- a state from which no match is reached may count as seen
 pub best-less : (e : Search) (i : ℕ) (seen after : ℕ → Bool) (s t : ℕ) (run : List (ℕ × ℕ)) → IsMore seen s after → IsHopeless e i seen s
     → IsBest e i after t run → IsBest e i seen t run
 best-less e i seen after s t run g none b = record {
-  is_open = open-less e i seen after s t run g b.is_open;
+  is_unseen = open-less e i seen after s t run g b.is_unseen;
   once = b.once;
   first = λ other m once. b.first other (open-more e i seen after s t other g none m) once;
 }
@@ -173,22 +173,22 @@ best-less e i seen after s t run g none b = record {
 
 -- the best run from where a step leads, with the place before it, is the best from there, if what a fork prefers is barred
 pub best-step : (e : Search) (i : ℕ) (seen : ℕ → Bool) (s j : ℕ) (after : ℕ → Bool) (t : ℕ) (run : List (ℕ × ℕ))
-    → IsOpenMatch e i seen s ((s, i) ∷ run) → IsOnce ((s, i) ∷ run)
-    → ((other : List (ℕ × ℕ)) → IsOpenMatch e i seen s other → IsOnce other → 1 < length other → place other 1 ≡ (t, j)
-    → IsOpenMatch e j after t (drop 1 other))
-    → ((other : List (ℕ × ℕ)) (a b : ℕ) → IsOpenMatch e i seen s other → IsOnce other → 1 < length other → slice_get e.states s ≡ Some (Fork a b)
+    → IsUnseenMatch e i seen s ((s, i) ∷ run) → IsOnce ((s, i) ∷ run)
+    → ((other : List (ℕ × ℕ)) → IsUnseenMatch e i seen s other → IsOnce other → 1 < length other → place other 1 ≡ (t, j)
+    → IsUnseenMatch e j after t (drop 1 other))
+    → ((other : List (ℕ × ℕ)) (a b : ℕ) → IsUnseenMatch e i seen s other → IsOnce other → 1 < length other → slice_get e.states s ≡ Some (Fork a b)
     → (place other 1).0 ≡ a → ¬ (t ≡ a) → ⊥)
     → IsBest e j after t run → IsBest e i seen s ((s, i) ∷ run)
 best-step e i seen s j after t run front once tail barred best = record {
-  is_open = front;
+  is_unseen = front;
   once = once;
   first = first;
 }
   where
     here : place run 0 ≡ (t, j)
-    here = best.is_open.is_match.begins
+    here = best.is_unseen.is_match.begins
 
-    first : (other : List (ℕ × ℕ)) → IsOpenMatch e i seen s other → IsOnce other → ¬ (IsPreferredTo e other ((s, i) ∷ run))
+    first : (other : List (ℕ × ℕ)) → IsUnseenMatch e i seen s other → IsOnce other → ¬ (IsPreferredTo e other ((s, i) ∷ run))
     first other m one b = ⊎_elim
         (λ (up : 0 < b.at).
         let second : place other 1 ≡ (t, j) = b.together 1 (omega (arith, up)) ∙ here in
@@ -205,7 +205,7 @@ best-step e i seen s j after t run front once tail barred best = record {
 -- ---- a step with no byte
 
 pub open-before : (e : Search) (i : ℕ) (seen after : ℕ → Bool) (s t : ℕ) (run : List (ℕ × ℕ)) → IsMore seen s after → seen s ≡ false → IsPlace e (s, i)
-    → Leads e (s, i) (t, i) → IsOpenMatch e i after t run → IsOpenMatch e i seen s ((s, i) ∷ run)
+    → Leads e (s, i) (t, i) → IsUnseenMatch e i after t run → IsUnseenMatch e i seen s ((s, i) ∷ run)
 open-before e i seen after s t run g fresh there leads m = record {
   is_match = match-before e (s, i) (t, i) run there leads m.is_match;
   avoids = avoids;
@@ -215,14 +215,14 @@ open-before e i seen after s t run g fresh there leads m = record {
     avoids zero l h = fresh
     avoids (suc k) l h = Avoids-less i seen after s run g m.avoids k (omega (arith, l)) h
 
-apart-after : (e : Search) (i : ℕ) (seen after : ℕ → Bool) (s t : ℕ) (run : List (ℕ × ℕ)) → IsMore seen s after → IsOpenMatch e i after t run
+apart-after : (e : Search) (i : ℕ) (seen after : ℕ → Bool) (s t : ℕ) (run : List (ℕ × ℕ)) → IsMore seen s after → IsUnseenMatch e i after t run
     → (k : ℕ) → k < length run → place run k ≢ (s, i)
 apart-after e i seen after s t run g m k l same =
     true≢false (sym g.new ∙ sym (ap (λ (q : ℕ × ℕ). after q.0) same) ∙ m.avoids k l (ap (λ (q : ℕ × ℕ). q.1) same))
 
-pub open-tail : (e : Search) (i : ℕ) (seen after : ℕ → Bool) (s t : ℕ) (other : List (ℕ × ℕ)) → IsMore seen s after → IsOpenMatch e i seen s other
-    → IsOnce other → 1 < length other → place other 1 ≡ (t, i) → IsOpenMatch e i after t (drop 1 other)
-open-tail e i seen after s t other g m once more second = record {
+pub unseen-tail : (e : Search) (i : ℕ) (seen after : ℕ → Bool) (s t : ℕ) (other : List (ℕ × ℕ)) → IsMore seen s after → IsUnseenMatch e i seen s other
+    → IsOnce other → 1 < length other → place other 1 ≡ (t, i) → IsUnseenMatch e i after t (drop 1 other)
+unseen-tail e i seen after s t other g m once more second = record {
   is_match = subst (λ (q : ℕ × ℕ). IsMatchRun e q (drop 1 other)) second (match-drop e (s, i) other 1 m.is_match more);
   avoids = avoids;
 }
@@ -243,13 +243,13 @@ pub best-before : (e : Search) (i : ℕ) (seen after : ℕ → Bool) (s t : ℕ)
     → ((a b : ℕ) → slice_get e.states s ≡ Some (Fork a b) → ¬ (t ≡ a) → IsHopeless e i after a)
     → IsBest e i after t run → IsBest e i seen s ((s, i) ∷ run)
 best-before e i seen after s t run g fresh there leads stays barred best =
-    best-step e i seen s i after t run (open-before e i seen after s t run g fresh there leads best.is_open)
-    (once-before (s, i) run best.once (apart-after e i seen after s t run g best.is_open))
-    (λ other m once more second. open-tail e i seen after s t other g m once more second)
+    best-step e i seen s i after t run (open-before e i seen after s t run g fresh there leads best.is_unseen)
+    (once-before (s, i) run best.once (apart-after e i seen after s t run g best.is_unseen))
+    (λ other m once more second. unseen-tail e i seen after s t other g m once more second)
     (λ other a b m once more fork first apart.
     let step : Leads e (s, i) (place other 1) = subst (λ (q : ℕ × ℕ). Leads e q (place other 1)) m.is_match.begins (m.is_match.is_run.steps 0 more) in
     barred a b fork apart (drop 1 other)
-    (open-tail e i seen after s a other g m once more (same_place (place other 1) (a, i) first (stays (place other 1) step))))
+    (unseen-tail e i seen after s a other g m once more (same_place (place other 1) (a, i) first (stays (place other 1) step))))
     best
 
 -- whether a run avoids what was seen
@@ -279,20 +279,20 @@ pub hopeless-before : (e : Search) (i : ℕ) (seen after : ℕ → Bool) (s : �
     → ((q : ℕ × ℕ) → Leads e (s, i) q → (q.1 ≡ i) × IsHopeless e i after q.0) → IsHopeless e i seen s
 hopeless-before e i seen after s g rejected steps run m = go (length run) run (omega arith) m
   where
-    go : (n : ℕ) (run : List (ℕ × ℕ)) → length run ≤ n → IsOpenMatch e i seen s run → ⊥
+    go : (n : ℕ) (run : List (ℕ × ℕ)) → length run ≤ n → IsUnseenMatch e i seen s run → ⊥
     go zero run le m = omega (arith, le, m.is_match.some)
     go (suc n) run le m = ⊎_elim
         (λ (more : 1 < length run).
         let step : Leads e (s, i) (place run 1) = subst (λ (q : ℕ × ℕ). Leads e q (place run 1)) m.is_match.begins (m.is_match.is_run.steps 0 more) in
         let second : place run 1 ≡ ((place run 1).0, i) = same_place (place run 1) ((place run 1).0, i) refl (steps (place run 1) step).0 in
-        let rest : IsOpenMatch e i seen (place run 1).0 (drop 1 run) = open-drop e i seen s (place run 1).0 run 1 m more second in
+        let rest : IsUnseenMatch e i seen (place run 1).0 (drop 1 run) = unseen-drop e i seen s (place run 1).0 run 1 m more second in
         ⊎_elim
         (λ (a : Avoids i after (drop 1 run)). (steps (place run 1) step).1 (drop 1 run) (record { is_match = rest.is_match; avoids = a }))
         (λ (w : (k : ℕ) × (k < length (drop 1 run)) × ((place (drop 1 run) k).1 ≡ i) × (after (place (drop 1 run) k).0 ≡ true)).
         ⊎_elim
         (λ (it : (place (drop 1 run) w.0).0 ≡ s).
         go n (drop w.0 (drop 1 run)) (omega (arith, le, w.1, length-drop 1 run, length-drop w.0 (drop 1 run)))
-        (open-drop e i seen (place run 1).0 s (drop 1 run) w.0 rest w.1 (same_place (place (drop 1 run) w.0) (s, i) it w.2)))
+        (unseen-drop e i seen (place run 1).0 s (drop 1 run) w.0 rest w.1 (same_place (place (drop 1 run) w.0) (s, i) it w.2)))
         (λ (was : seen (place (drop 1 run) w.0).0 ≡ true). true≢false (sym was ∙ rest.avoids w.0 w.1 w.2))
         (g.only (place (drop 1 run) w.0).0 w.3))
         (avoids_or_not i after (drop 1 run)))
@@ -307,7 +307,7 @@ pub best-over : (e : Search) (i : ℕ) (seen : ℕ → Bool) (s t : ℕ) (run : 
     → ((a b : ℕ) → slice_get e.states s ≡ Some (Fork a b) → ⊥) → IsBest e (i + 1) unseen t run → IsBest e i seen s ((s, i) ∷ run)
 best-over e i seen s t run fresh there leads no_fork best =
     best-step e i seen s (i + 1) unseen t run
-    (record { is_match = match-before e (s, i) (t, i + 1) run there leads best.is_open.is_match; avoids = avoids })
+    (record { is_match = match-before e (s, i) (t, i + 1) run there leads best.is_unseen.is_match; avoids = avoids })
     (once-before (s, i) run best.once (λ k l same. absurd (omega (arith, later k l, ap (λ (q : ℕ × ℕ). q.1) same))))
     (λ other m once more second. record {
       is_match = subst (λ (q : ℕ × ℕ). IsMatchRun e q (drop 1 other)) second (match-drop e (s, i) other 1 m.is_match more);
@@ -319,8 +319,8 @@ best-over e i seen s t run fresh there leads no_fork best =
     later : (k : ℕ) → k < length run → i + 1 ≤ (place run k).1
     later k l = omega (
       arith,
-      ap (λ (q : ℕ × ℕ). q.1) best.is_open.is_match.begins,
-      run-rises e run k best.is_open.is_match.is_run l,
+      ap (λ (q : ℕ × ℕ). q.1) best.is_unseen.is_match.begins,
+      run-rises e run k best.is_unseen.is_match.is_run l,
     )
 
     avoids : (k : ℕ) → k < length ((s, i) ∷ run) → (place ((s, i) ∷ run) k).1 ≡ i → seen (place ((s, i) ∷ run) k).0 ≡ false

@@ -15,7 +15,7 @@ use Rattle.rsc_engine.specs.Searches.{Search, Compiled, search_in}
 use Rattle.rsc_engine.specs.Runs.{IsMatchRun, IsMatchOf}
 use Rattle.rsc_engine.specs.Preferred.{IsOf}
 use Rattle.rsc_engine.specs.Patterns.{Pattern, Empty, Never, Class, Literal, Assertion, Then, Either, Repeat, Group, Subject, subject_of, Recognizes}
-use Rattle.rsc_engine.specs.Ways.{Mark, last_in, with_record, TimesWith, GoesWith}
+use Rattle.rsc_engine.specs.Ways.{Point, last_in, with_record, TimesWith, GoesWith}
 use Rattle.rsc_engine.specs.GroupNumbers.{count_groups, numbered}
 use Rattle.rsc_engine.specs.PatternOrder.{RecordsWays}
 use Rattle.rsc_engine.specs.GroupOrder.{ClosesGroups}
@@ -26,11 +26,11 @@ use Rattle.rsc_engine.proofs.WaysLemmas.{same_slot, other_slot, slot_later}
 -- ---- along a way
 
 -- nothing was recorded later than here; and in each pair of slots, but those of groups that are open, what is in the first has an end in the second
-record IsClosedBut (Opens : ℕ → Type 0) (m : Mark) : Type 0 where
+record IsClosedBut (Opens : ℕ → Type 0) (m : Point) : Type 0 where
   before : (slot i : ℕ) → last_in m.1 slot ≡ Some i → i ≤ m.0
   closed : (pair i : ℕ) → (Opens pair → ⊥) → last_in m.1 (2 * pair) ≡ Some i → (j : ℕ) × (last_in m.1 (2 * pair + 1) ≡ Some j) × (i ≤ j)
 
-closed-later : (Opens : ℕ → Type 0) (m k : Mark) → m.1 ≡ k.1 → m.0 ≤ k.0 → IsClosedBut Opens m → IsClosedBut Opens k
+closed-later : (Opens : ℕ → Type 0) (m k : Point) → m.1 ≡ k.1 → m.0 ≤ k.0 → IsClosedBut Opens m → IsClosedBut Opens k
 closed-later Opens m k same l c = record {
   before = λ slot i h. let b = c.before slot i (ap (λ (r : List (ℕ × ℕ)). last_in r slot) same ∙ h) in omega (arith, b, l);
   closed = λ pair i none h.
@@ -39,7 +39,7 @@ closed-later Opens m k same l c = record {
 }
 
 -- a record at the position
-recorded-before : (slot : ℕ) (m : Mark) → ((other i : ℕ) → last_in m.1 other ≡ Some i → i ≤ m.0) → (other i : ℕ)
+recorded-before : (slot : ℕ) (m : Point) → ((other i : ℕ) → last_in m.1 other ≡ Some i → i ≤ m.0) → (other i : ℕ)
     → last_in ((slot, m.0) ∷ m.1) other ≡ Some i → i ≤ m.0
 recorded-before slot m before other i h = ⊎_elim
     (λ (same : slot ≡ other).
@@ -48,7 +48,7 @@ recorded-before slot m before other i h = ⊎_elim
     (λ (apart : (slot ≡ other) → ⊥). before other i (sym (other_slot slot other m.0 m.1 apart) ∙ h))
     (cases_eq slot other)
 
-opened : (Opens : ℕ → Type 0) (slot pair : ℕ) (m : Mark) → slot ≡ 2 * pair → IsClosedBut Opens m
+opened : (Opens : ℕ → Type 0) (slot pair : ℕ) (m : Point) → slot ≡ 2 * pair → IsClosedBut Opens m
     → IsClosedBut (λ q. Opens q ⊎ (q ≡ pair)) (with_record slot m)
 opened Opens slot pair m is c = record {
   before = λ other i h. recorded-before slot m (λ s j at. c.before s j at) other i h;
@@ -58,7 +58,7 @@ opened Opens slot pair m is c = record {
       (r.0, other_slot slot (2 * other + 1) m.0 m.1 (λ e. absurd (omega (arith, e, is))) ∙ r.1, r.2);
 }
 
-ended : (Opens : ℕ → Type 0) (slot pair : ℕ) (m : Mark) → slot ≡ 2 * pair → IsClosedBut (λ q. Opens q ⊎ (q ≡ pair)) m
+ended : (Opens : ℕ → Type 0) (slot pair : ℕ) (m : Point) → slot ≡ 2 * pair → IsClosedBut (λ q. Opens q ⊎ (q ≡ pair)) m
     → IsClosedBut Opens (with_record (slot + 1) m)
 ended Opens slot pair m is c = record {
   before = λ other i h. recorded-before (slot + 1) m (λ s j at. c.before s j at) other i h;
@@ -73,12 +73,12 @@ ended Opens slot pair m is c = record {
       (cases_eq other pair);
 }
 
-times-closed : (Opens : ℕ → Type 0) (R : Mark → Mark → Type 0) → ((m k : Mark) → IsClosedBut Opens m → R m k → IsClosedBut Opens k) → (t : ℕ) (m k : Mark)
+times-closed : (Opens : ℕ → Type 0) (R : Point → Point → Type 0) → ((m k : Point) → IsClosedBut Opens m → R m k → IsClosedBut Opens k) → (t : ℕ) (m k : Point)
     → IsClosedBut Opens m → TimesWith R t m k → IsClosedBut Opens k
 times-closed Opens R along zero m k c g = subst (IsClosedBut Opens) g c
 times-closed Opens R along (suc t) m k c g = times-closed Opens R along t g.0 k (along m g.0 c g.1) g.2
 
-closed-along : (f : ℕ → ℕ) → ((g : ℕ) → (h : ℕ) × (f g ≡ 2 * h)) → (x : Subject) (p : Pattern) (n : ℕ) (Opens : ℕ → Type 0) (m k : Mark)
+closed-along : (f : ℕ → ℕ) → ((g : ℕ) → (h : ℕ) × (f g ≡ 2 * h)) → (x : Subject) (p : Pattern) (n : ℕ) (Opens : ℕ → Type 0) (m k : Point)
     → IsClosedBut Opens m → GoesWith x (numbered f n p) m k → IsClosedBut Opens k
 closed-along f even x Empty n Opens m k c g = subst (IsClosedBut Opens) g c
 closed-along f even x Never n Opens m k c g = absurd g
@@ -91,7 +91,7 @@ closed-along f even x (Either a b) n Opens m k c g = ⊎_elim
     (λ (w : GoesWith x (numbered f n a) m k). closed-along f even x a n Opens m k c w)
     (λ (w : GoesWith x (numbered f (n + count_groups a) b) m k). closed-along f even x b (n + count_groups a) Opens m k c w)
     g
-closed-along f even x (Repeat min max often a) n Opens m k c g =
+closed-along f even x (Repeat min max greedy a) n Opens m k c g =
     times-closed Opens (GoesWith x (numbered f n a)) (closed-along f even x a n Opens) g.0 m k c g.3
 closed-along f even x (Group slot a) n Opens m k c g =
     let e = even n in

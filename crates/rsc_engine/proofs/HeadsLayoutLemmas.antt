@@ -6,12 +6,12 @@ use Rattle.std.specs.List.{AllPairs, Contains}
 use Rattle.rsc_nfa.specs.Steps.{is_between}
 use Rattle.rsc_engine.specs.Patterns.{Then, Subject, Times, SomeTimes, Goes, may_be_empty}
 use Rattle.rsc_engine.specs.FirstEnds.{loops_take_bytes, HasEndIn}
-use Rattle.rsc_engine.specs.Ways.{Mark}
+use Rattle.rsc_engine.specs.Ways.{Point}
 use Rattle.rsc_engine.specs.FirstWays.{AreFirstRounds, IsFirstWay}
 use Rattle.rsc_engine.specs.Courses.{Course, Skip, Dead, Byte, Here, After, Choose, Turn, Again, Within, Stand, further, chosen, noted, IsNew, Turns, SomeTurns, GoesNew, Reaches, FirstTurns, IsFirstNew}
 use Rattle.rsc_engine.specs.PreferredWays.{choices}
 use Rattle.rsc_engine.specs.WrittenLayout.{written}
-use Rattle.rsc_engine.specs.HeadsLayout.{Makes, MakesFirst, AreApart, IsOpenTo, Leaves, IsBefore}
+use Rattle.rsc_engine.specs.HeadsLayout.{Makes, MakesFirst, AreApart, AreNew, Leaves, IsFreshBefore}
 use Rattle.rsc_engine.proofs.FirstEndsLemmas.{both_are, part-loops, loop-takes}
 use Rattle.rsc_engine.proofs.PatternsLemmas.{or_one, or_other, neither_one, neither_other}
 use Rattle.rsc_engine.proofs.PreferredWaysLemmas.{new-goes}
@@ -30,8 +30,8 @@ made (Choose w c d) v m = ⊎_elim
     (λ (o : MakesFirst c v ⊎ MakesFirst d v).
     ⊎_elim (λ (a : MakesFirst c v). inr (inl (made c v a))) (λ (b : MakesFirst d v). inr (inr (made d v b))) o)
     m
-made (Turn w often c) v m = ⊎_elim (λ (e : w ≡ v). inl e) (λ (a : MakesFirst c v). inr (made c v a)) m
-made (Again w often c) v m = inr (made c v m)
+made (Turn w greedy c) v m = ⊎_elim (λ (e : w ≡ v). inl e) (λ (a : MakesFirst c v). inr (made c v a)) m
+made (Again w greedy c) v m = inr (made c v m)
 made (Within slot c) v m = made c v m
 
 behind : (w v : ℕ) (xs : List ℕ) → (w ≡ v) ⊎ Contains xs v → Contains (w ∷ xs) v
@@ -54,8 +54,8 @@ listed (Choose w c d) v m = behind w v (choices c ++ choices d) (⊎_elim
     (λ (b : Makes d v). Contains-append_right (choices c) (choices d) v (listed d v b))
     o))
     m)
-listed (Turn w often c) v m = behind w v (choices c) (⊎_elim (λ (e : w ≡ v). inl e) (λ (a : Makes c v). inr (listed c v a)) m)
-listed (Again w often c) v m = behind w v (choices c) (⊎_elim (λ (e : w ≡ v). inl e) (λ (a : Makes c v). inr (listed c v a)) m)
+listed (Turn w greedy c) v m = behind w v (choices c) (⊎_elim (λ (e : w ≡ v). inl e) (λ (a : Makes c v). inr (listed c v a)) m)
+listed (Again w greedy c) v m = behind w v (choices c) (⊎_elim (λ (e : w ≡ v). inl e) (λ (a : Makes c v). inr (listed c v a)) m)
 listed (Within slot c) v m = listed c v m
 
 abbrev Distinct : List ℕ → Type 0
@@ -100,8 +100,8 @@ apart-of (Choose w c d) h =
       λ a. not_again w (choices c ++ choices d) h (listed (After c d) w (inl a)),
       λ b. not_again w (choices c ++ choices d) h (listed (After c d) w (inr b)),
     )
-apart-of (Turn w often c) h = (apart-of c (behind_first w (choices c) h), λ a. not_again w (choices c) h (listed c w a))
-apart-of (Again w often c) h = (apart-of c (behind_first w (choices c) h), λ a. not_again w (choices c) h (listed c w a))
+apart-of (Turn w greedy c) h = (apart-of c (behind_first w (choices c) h), λ a. not_again w (choices c) h (listed c w a))
+apart-of (Again w greedy c) h = (apart-of c (behind_first w (choices c) h), λ a. not_again w (choices c) h (listed c w a))
 apart-of (Within slot c) h = apart-of c h
 
 single : (b : Bool) → (b || false) ≡ true → b ≡ true
@@ -115,19 +115,20 @@ abbrev Takes : Course → Type 0
 Takes c = loops_take_bytes (written c) ≡ true
 
 abbrev LeavesBy : Subject → Course → Type 0
-LeavesBy x c = (s t : Stand) → IsOpenTo c s → GoesNew x c s t → Leaves c s t
+LeavesBy x c = (s t : Stand) → AreNew c s → GoesNew x c s t → Leaves c s t
 
 -- a round leads to where another may begin
 round-before : (w : ℕ) (c : Course) (Given : ℕ → Type 0) (s t : Stand) → may_be_empty (written c) ≡ false → (Makes c w → ⊥)
-    → ((v : ℕ) → Makes c v → Given v) → Leaves c s t → IsBefore w c Given t
+    → ((v : ℕ) → Makes c v → Given v) → Leaves c s t → IsFreshBefore w c Given t
 round-before w c Given s t takes apart given l v m = ⊎_elim
     (λ (a : Makes c v). (given v a, λ e. apart (subst (λ (z : ℕ). Makes c z) (sym e) a), l.fresh takes v m))
     (λ (b : (may_be_empty (written c) ≡ true) × Contains s.made v). absurd (true≢false (sym b.0 ∙ takes)))
     (l.from v m)
 
 -- after the choice that ends the rounds of a loop
-turn-leaves : (w : ℕ) (often : Bool) (c : Course) (s k : Stand) → IsBefore w c (λ v. Makes c v ⊎ Contains s.made v) k → Leaves (Turn w often c) s (chosen w k)
-turn-leaves w often c s k b = record {
+turn-leaves : (w : ℕ) (greedy : Bool) (c : Course) (s k : Stand) → IsFreshBefore w c (λ v. Makes c v ⊎ Contains s.made v) k
+    → Leaves (Turn w greedy c) s (chosen w k)
+turn-leaves w greedy c s k b = record {
   from = λ v m. ⊎_elim
       (λ (e : w ≡ v). inl (inl e))
       (λ (a : Contains k.made v).
@@ -136,8 +137,8 @@ turn-leaves w often c s k b = record {
   fresh = λ e v m. absurd (true≢false e);
 }
 
-again-leaves : (w : ℕ) (often : Bool) (c : Course) (s k : Stand) → (Makes c w → ⊥) → IsBefore w c (Makes c) k → Leaves (Again w often c) s (chosen w k)
-again-leaves w often c s k apart b = record {
+again-leaves : (w : ℕ) (greedy : Bool) (c : Course) (s k : Stand) → (Makes c w → ⊥) → IsFreshBefore w c (Makes c) k → Leaves (Again w greedy c) s (chosen w k)
+again-leaves w greedy c s k apart b = record {
   from = λ v m. ⊎_elim (λ (e : w ≡ v). inl (inl e)) (λ (a : Contains k.made v). inl (inr ((b v a).0))) (front w v k.made m);
   fresh = λ e v m f. ⊎_elim
       (λ (e : w ≡ v). apart (subst (λ (z : ℕ). Makes c z) (sym e) (made c v f)))
@@ -146,42 +147,42 @@ again-leaves w often c s k apart b = record {
 }
 
 -- the first round of a loop
-first-before : (w : ℕ) (often : Bool) (c : Course) (s : Stand) → IsOpenTo (Turn w often c) s → IsBefore w c (λ v. Makes c v ⊎ Contains s.made v) s
-first-before w often c s opens v m = (inr m, λ e. opens v (inl e) m, λ f. opens v (inr f) m)
+first-before : (w : ℕ) (greedy : Bool) (c : Course) (s : Stand) → AreNew (Turn w greedy c) s → IsFreshBefore w c (λ v. Makes c v ⊎ Contains s.made v) s
+first-before w greedy c s opens v m = (inr m, λ e. opens v (inl e) m, λ f. opens v (inr f) m)
 
 -- where nothing of a course was made it may begin
-opens-left : (c d : Course) (s : Stand) → IsOpenTo (After c d) s → IsOpenTo c s
+opens-left : (c d : Course) (s : Stand) → AreNew (After c d) s → AreNew c s
 opens-left c d s opens v m = opens v (inl m)
 
-opens-right : (c d : Course) (s k : Stand) → ((v : ℕ) → Makes c v → Makes d v → ⊥) → IsOpenTo (After c d) s → Leaves c s k → IsOpenTo d k
+opens-right : (c d : Course) (s k : Stand) → ((v : ℕ) → Makes c v → Makes d v → ⊥) → AreNew (After c d) s → Leaves c s k → AreNew d k
 opens-right c d s k apart opens l v m there = ⊎_elim
     (λ (a : Makes c v). apart v a (made d v m))
     (λ (b : (may_be_empty (written c) ≡ true) × Contains s.made v). opens v (inr (b.0, m)) b.1)
     (l.from v there)
 
 -- after a choice
-opens-chosen : (w : ℕ) (c : Course) (s : Stand) → (Makes c w → ⊥) → IsOpenTo c s → IsOpenTo c (chosen w s)
+opens-chosen : (w : ℕ) (c : Course) (s : Stand) → (Makes c w → ⊥) → AreNew c s → AreNew c (chosen w s)
 opens-chosen w c s apart opens v m there = ⊎_elim
     (λ (e : w ≡ v). apart (subst (λ (z : ℕ). Makes c z) (sym e) (made c v m)))
     (λ (a : Contains s.made v). opens v m a)
     (front w v s.made there)
 
-opens-first : (w : ℕ) (c d : Course) (s : Stand) → (Makes c w → ⊥) → IsOpenTo (Choose w c d) s → IsOpenTo c (chosen w s)
+opens-first : (w : ℕ) (c d : Course) (s : Stand) → (Makes c w → ⊥) → AreNew (Choose w c d) s → AreNew c (chosen w s)
 opens-first w c d s apart opens = opens-chosen w c s apart (λ v m. opens v (inr (inl m)))
 
-opens-other : (w : ℕ) (c d : Course) (s : Stand) → (Makes d w → ⊥) → IsOpenTo (Choose w c d) s → IsOpenTo d (chosen w s)
+opens-other : (w : ℕ) (c d : Course) (s : Stand) → (Makes d w → ⊥) → AreNew (Choose w c d) s → AreNew d (chosen w s)
 opens-other w c d s apart opens = opens-chosen w d s apart (λ v m. opens v (inr (inr m)))
 
-before-chosen : (w : ℕ) (c : Course) (Given : ℕ → Type 0) (s : Stand) → (Makes c w → ⊥) → IsBefore w c Given s → IsOpenTo c (chosen w s)
+before-chosen : (w : ℕ) (c : Course) (Given : ℕ → Type 0) (s : Stand) → (Makes c w → ⊥) → IsFreshBefore w c Given s → AreNew c (chosen w s)
 before-chosen w c Given s apart b = opens-chosen w c s apart (λ v m there. (b v there).2 m)
 
-before-new : (w : ℕ) (c : Course) (Given : ℕ → Type 0) (s : Stand) → IsBefore w c Given s → Contains s.made w → ⊥
+before-new : (w : ℕ) (c : Course) (Given : ℕ → Type 0) (s : Stand) → IsFreshBefore w c Given s → Contains s.made w → ⊥
 before-new w c Given s b m = (b w m).1 refl
 
 -- rounds end by their choice
 turns-before : (x : Subject) (w : ℕ) (c : Course) (Given : ℕ → Type 0) → may_be_empty (written c) ≡ false → (Makes c w → ⊥)
-    → ((v : ℕ) → Makes c v → Given v) → LeavesBy x c → (n : ℕ) (s t : Stand) → IsBefore w c Given s → Turns (GoesNew x c) w n s t
-    → (k : Stand) × (t ≡ chosen w k) × IsBefore w c Given k
+    → ((v : ℕ) → Makes c v → Given v) → LeavesBy x c → (n : ℕ) (s t : Stand) → IsFreshBefore w c Given s → Turns (GoesNew x c) w n s t
+    → (k : Stand) × (t ≡ chosen w k) × IsFreshBefore w c Given k
 turns-before x w c Given takes apart given leave zero s t b g = (s, g.1, b)
 turns-before x w c Given takes apart given leave (suc n) s t b g =
     let l = leave (chosen w s) g.1 (before-chosen w c Given s apart b) g.2 in
@@ -305,16 +306,16 @@ leaves x (Choose w c d) h apart s t opens g =
     (λ (y : GoesNew x d (chosen w s) t).
     other-leaves w c d s t apart.4 apart.2 (leaves x d loops.1 apart.1 (chosen w s) t (opens-other w c d s apart.4 opens) y))
     g.1
-leaves x (Turn w often c) h apart s t opens g =
-    let k = turns-before x w c (λ v. Makes c v ⊎ Contains s.made v) (loop-takes 0 often (written c) h) apart.1 (λ v a. inl a)
-    (leaves x c (part-loops 0 None often (written c) h) apart.0) g.0 s t (first-before w often c s opens) g.1 in
-    subst (λ (z : Stand). Leaves (Turn w often c) s z) (sym k.1) (turn-leaves w often c s k.0 k.2)
-leaves x (Again w often c) h apart s t opens g =
-    let takes = loop-takes 1 often (written c) h in
-    let by = leaves x c (part-loops 1 None often (written c) h) apart.0 in
+leaves x (Turn w greedy c) h apart s t opens g =
+    let k = turns-before x w c (λ v. Makes c v ⊎ Contains s.made v) (loop-takes 0 greedy (written c) h) apart.1 (λ v a. inl a)
+    (leaves x c (part-loops 0 None greedy (written c) h) apart.0) g.0 s t (first-before w greedy c s opens) g.1 in
+    subst (λ (z : Stand). Leaves (Turn w greedy c) s z) (sym k.1) (turn-leaves w greedy c s k.0 k.2)
+leaves x (Again w greedy c) h apart s t opens g =
+    let takes = loop-takes 1 greedy (written c) h in
+    let by = leaves x c (part-loops 1 None greedy (written c) h) apart.0 in
     let k = turns-before x w c (Makes c) takes apart.1 (λ v a. a) by g.2.0 g.0 t
     (round-before w c (Makes c) s g.0 takes apart.1 (λ v a. a) (by s g.0 opens g.1)) g.2.1 in
-    subst (λ (z : Stand). Leaves (Again w often c) s z) (sym k.1) (again-leaves w often c s k.0 apart.1 k.2)
+    subst (λ (z : Stand). Leaves (Again w greedy c) s z) (sym k.1) (again-leaves w greedy c s k.0 apart.1 k.2)
 leaves x (Within slot c) h apart s t opens g =
     let l = leaves x c h apart (noted slot s) g.0 opens g.1 in
     subst (λ (z : Stand). Leaves (Within slot c) s z) (sym g.2) (record { from = l.from; fresh = l.fresh })
@@ -336,8 +337,8 @@ goes x (Choose w c d) s t g = ⊎_elim
     (λ (y : GoesNew x c (chosen w s) t). inl (goes x c (chosen w s) t y))
     (λ (y : GoesNew x d (chosen w s) t). inr (goes x d (chosen w s) t y))
     g.1
-goes x (Turn w often c) s t g = (g.0, omega arith, tt, turns-go (GoesNew x c) (Goes x (written c)) w (goes x c) g.0 s t g.1)
-goes x (Again w often c) s t g =
+goes x (Turn w greedy c) s t g = (g.0, omega arith, tt, turns-go (GoesNew x c) (Goes x (written c)) w (goes x c) g.0 s t g.1)
+goes x (Again w greedy c) s t g =
     (suc g.2.0, omega arith, tt, (g.0.at, goes x c s g.0 g.1, turns-go (GoesNew x c) (Goes x (written c)) w (goes x c) g.2.0 g.0 t g.2.1))
 goes x (Within slot c) s t g = subst (λ (k : Stand). Goes x (written c) s.at k.at) (sym g.2) (goes x c (noted slot s) g.0 g.1)
 
@@ -346,10 +347,10 @@ abbrev HasGoing : Subject → Course → Stand → ℕ → Type 0
 HasGoing x c s j = (t : Stand) × GoesNew x c s t × (t.at ≡ j)
 
 abbrev GoesBack : Subject → Course → Type 0
-GoesBack x c = (s : Stand) (j : ℕ) → IsOpenTo c s → Goes x (written c) s.at j → HasGoing x c s j
+GoesBack x c = (s : Stand) (j : ℕ) → AreNew c s → Goes x (written c) s.at j → HasGoing x c s j
 
 turns-back : (x : Subject) (w : ℕ) (c : Course) (Given : ℕ → Type 0) → may_be_empty (written c) ≡ false → (Makes c w → ⊥)
-    → ((v : ℕ) → Makes c v → Given v) → LeavesBy x c → GoesBack x c → (n : ℕ) (s : Stand) (j : ℕ) → IsBefore w c Given s
+    → ((v : ℕ) → Makes c v → Given v) → LeavesBy x c → GoesBack x c → (n : ℕ) (s : Stand) (j : ℕ) → IsFreshBefore w c Given s
     → Times (Goes x (written c)) n s.at j → (t : Stand) × Turns (GoesNew x c) w n s t × (t.at ≡ j)
 turns-back x w c Given takes apart given leave back zero s j b g = (chosen w s, (before-new w c Given s b, refl), g)
 turns-back x w c Given takes apart given leave back (suc n) s j b g =
@@ -359,10 +360,10 @@ turns-back x w c Given takes apart given leave back (suc n) s j b g =
     let rest = turns-back x w c Given takes apart given leave back n one.0 j next (subst (λ (i : ℕ). Times (Goes x (written c)) n i j) (sym one.2) g.2) in
     (rest.0, (before-new w c Given s b, one.0, one.1, rest.1), rest.2)
 
-again-back : (x : Subject) (w : ℕ) (often : Bool) (c : Course) → may_be_empty (written c) ≡ false → (Makes c w → ⊥) → LeavesBy x c → GoesBack x c
-    → (s : Stand) (j : ℕ) → IsOpenTo c s → (n : ℕ) → 1 ≤ n → Times (Goes x (written c)) n s.at j → HasGoing x (Again w often c) s j
-again-back x w often c takes apart leave by s j opens zero l t = absurd (omega (arith, l))
-again-back x w often c takes apart leave by s j opens (suc n) l t =
+again-back : (x : Subject) (w : ℕ) (greedy : Bool) (c : Course) → may_be_empty (written c) ≡ false → (Makes c w → ⊥) → LeavesBy x c → GoesBack x c
+    → (s : Stand) (j : ℕ) → AreNew c s → (n : ℕ) → 1 ≤ n → Times (Goes x (written c)) n s.at j → HasGoing x (Again w greedy c) s j
+again-back x w greedy c takes apart leave by s j opens zero l t = absurd (omega (arith, l))
+again-back x w greedy c takes apart leave by s j opens (suc n) l t =
     let one = by s t.0 opens t.1 in
     let next = round-before w c (Makes c) s one.0 takes apart (λ v a. a) (leave s one.0 opens one.1) in
     let r = turns-back x w c (Makes c) takes apart (λ v a. a) leave by n one.0 j next
@@ -389,20 +390,20 @@ back x (Choose w c d) h apart s j opens g =
     (λ (y : Goes x (written d) s.at j).
     let r = back x d loops.1 apart.1 (chosen w s) j (opens-other w c d s apart.4 opens) y in (r.0, (new, inr r.1), r.2))
     g
-back x (Turn w often c) h apart s j opens g =
-    let part = part-loops 0 None often (written c) h in
-    let r = turns-back x w c (λ v. Makes c v ⊎ Contains s.made v) (loop-takes 0 often (written c) h) apart.1 (λ v a. inl a) (leaves x c part apart.0)
-    (back x c part apart.0) g.0 s j (first-before w often c s opens) g.3 in
+back x (Turn w greedy c) h apart s j opens g =
+    let part = part-loops 0 None greedy (written c) h in
+    let r = turns-back x w c (λ v. Makes c v ⊎ Contains s.made v) (loop-takes 0 greedy (written c) h) apart.1 (λ v a. inl a) (leaves x c part apart.0)
+    (back x c part apart.0) g.0 s j (first-before w greedy c s opens) g.3 in
     (r.0, (g.0, r.1), r.2)
-back x (Again w often c) h apart s j opens g =
-    let part = part-loops 1 None often (written c) h in
-    again-back x w often c (loop-takes 1 often (written c) h) apart.1 (leaves x c part apart.0) (back x c part apart.0) s j opens g.0 g.1 g.3
+back x (Again w greedy c) h apart s j opens g =
+    let part = part-loops 1 None greedy (written c) h in
+    again-back x w greedy c (loop-takes 1 greedy (written c) h) apart.1 (leaves x c part apart.0) (back x c part apart.0) s j opens g.0 g.1 g.3
 back x (Within slot c) h apart s j opens g =
     let r = back x c h apart (noted slot s) j opens g in (noted (slot + 1) r.0, (r.0, r.1, refl), r.2)
 
 -- ---- the first way
 
-abbrev mark : Stand → Mark
+abbrev mark : Stand → Point
 mark s = (s.at, s.records)
 
 -- of a stand after the course and its position the same is wanted
@@ -411,7 +412,7 @@ Agrees c s Wanted Plain = (u : Stand) → Leaves c s u → (Wanted u → Plain u
 
 -- a first way of the course is one of its pattern
 abbrev IsPlain : Subject → Course → Type 1
-IsPlain x c = (Wanted : Stand → Type 0) (Plain : ℕ → Type 0) (s t : Stand) → IsOpenTo c s → Agrees c s Wanted Plain → IsFirstNew x c Wanted s t
+IsPlain x c = (Wanted : Stand → Type 0) (Plain : ℕ → Type 0) (s t : Stand) → AreNew c s → Agrees c s Wanted Plain → IsFirstNew x c Wanted s t
     → IsFirstWay x (written c) Plain (mark s) (mark t)
 
 -- what is known of a loop's part
@@ -425,12 +426,12 @@ record Round (x : Subject) (w : ℕ) (c : Course) (Given : ℕ → Type 0) : Typ
 
 -- after the rounds the same is wanted of a stand and of its position
 abbrev AgreesAfter : ℕ → Course → (ℕ → Type 0) → (Stand → Type 0) → (ℕ → Type 0) → Type 0
-AgreesAfter w c Given Wanted Plain = (k : Stand) → IsBefore w c Given k → (Wanted (chosen w k) → Plain k.at) × (Plain k.at → Wanted (chosen w k))
+AgreesAfter w c Given Wanted Plain = (k : Stand) → IsFreshBefore w c Given k → (Wanted (chosen w k) → Plain k.at) × (Plain k.at → Wanted (chosen w k))
 
-module _ (x : Subject) (w : ℕ) (often : Bool) (c : Course) (Given : ℕ → Type 0) (r : Round x w c Given) (Wanted : Stand → Type 0) (Plain : ℕ → Type 0)
+module _ (x : Subject) (w : ℕ) (greedy : Bool) (c : Course) (Given : ℕ → Type 0) (r : Round x w c Given) (Wanted : Stand → Type 0) (Plain : ℕ → Type 0)
     (agree : AgreesAfter w c Given Wanted Plain) where
   -- more rounds lead to where something is wanted
-  rounds-plain : (s : Stand) → IsBefore w c Given s → Reaches Wanted (SomeTurns (GoesNew x c) w) s
+  rounds-plain : (s : Stand) → IsFreshBefore w c Given s → Reaches Wanted (SomeTurns (GoesNew x c) w) s
       → HasEndIn Plain (SomeTimes (Goes x (written c)) 0 None) s.at
   rounds-plain s b e =
       let k = turns-before x w c Given r.takes r.apart r.given r.leave e.1.0 s e.0 b e.1.1 in (
@@ -439,7 +440,7 @@ module _ (x : Subject) (w : ℕ) (often : Bool) (c : Course) (Given : ℕ → Ty
         subst (λ (z : Stand). Plain z.at) (sym k.1) ((agree k.0 k.2).0 (subst Wanted k.1 e.2)),
       )
 
-  rounds-new : (s : Stand) (i : ℕ) → s.at ≡ i → IsBefore w c Given s → HasEndIn Plain (SomeTimes (Goes x (written c)) 0 None) i
+  rounds-new : (s : Stand) (i : ℕ) → s.at ≡ i → IsFreshBefore w c Given s → HasEndIn Plain (SomeTimes (Goes x (written c)) 0 None) i
       → Reaches Wanted (SomeTurns (GoesNew x c) w) s
   rounds-new s i at b e =
       let t = turns-back x w c Given r.takes r.apart r.given r.leave r.back e.1.0 s e.0 b
@@ -455,8 +456,8 @@ module _ (x : Subject) (w : ℕ) (often : Bool) (c : Course) (Given : ℕ → Ty
       let b = round-before w c Given (chosen w s) u r.takes r.apart r.given l in
       (λ e. rounds-plain u b e, λ e. rounds-new u u.at refl b e)
 
-  turns-plain : (n : ℕ) (s t : Stand) → IsBefore w c Given s → FirstTurns (λ Such k l. IsFirstNew x c Such k l) (GoesNew x c) w often n Wanted s t
-      → AreFirstRounds (λ Such k l. IsFirstWay x (written c) Such k l) (Goes x (written c)) often n 0 None Plain (mark s) (mark t)
+  turns-plain : (n : ℕ) (s t : Stand) → IsFreshBefore w c Given s → FirstTurns (λ Such k l. IsFirstNew x c Such k l) (GoesNew x c) w greedy n Wanted s t
+      → AreFirstRounds (λ Such k l. IsFirstWay x (written c) Such k l) (Goes x (written c)) greedy n 0 None Plain (mark s) (mark t)
   turns-plain zero s t b f = (
     refl,
     ap mark (sym f.1),
@@ -479,20 +480,20 @@ module _ (x : Subject) (w : ℕ) (often : Bool) (c : Course) (Given : ℕ → Ty
         turns-plain n f.2 t next f.4,
       )
 
-module _ (x : Subject) (w : ℕ) (often : Bool) (c : Course) (takes : may_be_empty (written c) ≡ false) (apart : Makes c w → ⊥) (leave : LeavesBy x c)
+module _ (x : Subject) (w : ℕ) (greedy : Bool) (c : Course) (takes : may_be_empty (written c) ≡ false) (apart : Makes c w → ⊥) (leave : LeavesBy x c)
     (by : GoesBack x c) (part : IsPlain x c) where
-  turn-plain : IsPlain x (Turn w often c)
+  turn-plain : IsPlain x (Turn w greedy c)
   turn-plain Wanted Plain s t opens agree f = (
     f.0,
-    turns-plain x w often c (λ v. Makes c v ⊎ Contains s.made v)
+    turns-plain x w greedy c (λ v. Makes c v ⊎ Contains s.made v)
         (record { takes = takes; apart = apart; given = λ v a. inl a; leave = leave; back = by; plain = part }) Wanted Plain
-        (λ k b. agree (chosen w k) (turn-leaves w often c s k b)) f.0 s t (first-before w often c s opens) f.1,
+        (λ k b. agree (chosen w k) (turn-leaves w greedy c s k b)) f.0 s t (first-before w greedy c s opens) f.1,
   )
 
   round : Round x w c (Makes c)
   round = record { takes = takes; apart = apart; given = λ v a. a; leave = leave; back = by; plain = part }
 
-  again-plain : IsPlain x (Again w often c)
+  again-plain : IsPlain x (Again w greedy c)
   again-plain Wanted Plain s t opens agree f = (
     suc f.2,
     (
@@ -500,14 +501,14 @@ module _ (x : Subject) (w : ℕ) (often : Bool) (c : Course) (takes : may_be_emp
       λ e none. absurd (omega (arith, none)),
       mark f.0,
       part (Reaches Wanted (SomeTurns (GoesNew x c) w)) (HasEndIn Plain (SomeTimes (Goes x (written c)) 0 None)) s f.0 opens both f.1,
-      turns-plain x w often c (Makes c) round Wanted Plain after f.2 f.0 t (before f.0 here) f.3,
+      turns-plain x w greedy c (Makes c) round Wanted Plain after f.2 f.0 t (before f.0 here) f.3,
     ),
   )
     where
       after : AgreesAfter w c (Makes c) Wanted Plain
-      after k b = agree (chosen w k) (again-leaves w often c s k apart b)
+      after k b = agree (chosen w k) (again-leaves w greedy c s k apart b)
 
-      before : (u : Stand) → Leaves c s u → IsBefore w c (Makes c) u
+      before : (u : Stand) → Leaves c s u → IsFreshBefore w c (Makes c) u
       before u l = round-before w c (Makes c) s u takes apart (λ v a. a) l
 
       here : Leaves c s f.0
@@ -515,8 +516,8 @@ module _ (x : Subject) (w : ℕ) (often : Bool) (c : Course) (takes : may_be_emp
 
       both : Agrees c s (Reaches Wanted (SomeTurns (GoesNew x c) w)) (HasEndIn Plain (SomeTimes (Goes x (written c)) 0 None))
       both u l = (
-        λ e. rounds-plain x w often c (Makes c) round Wanted Plain after u (before u l) e,
-        λ e. rounds-new x w often c (Makes c) round Wanted Plain after u u.at refl (before u l) e,
+        λ e. rounds-plain x w greedy c (Makes c) round Wanted Plain after u (before u l) e,
+        λ e. rounds-new x w greedy c (Makes c) round Wanted Plain after u u.at refl (before u l) e,
       )
 
 pub plain : (x : Subject) (c : Course) → Takes c → AreApart c → IsPlain x c
@@ -565,10 +566,10 @@ plain x (Choose w c d) h apart Wanted Plain s t opens agree f = ⊎_elim
     loops : (loops_take_bytes (written c) ≡ true) × (loops_take_bytes (written d) ≡ true)
     loops = both_are (loops_take_bytes (written c)) (loops_take_bytes (written d)) h
 
-    one-opens : IsOpenTo c (chosen w s)
+    one-opens : AreNew c (chosen w s)
     one-opens = opens-first w c d s apart.3 opens
 
-    other-opens : IsOpenTo d (chosen w s)
+    other-opens : AreNew d (chosen w s)
     other-opens = opens-other w c d s apart.4 opens
 
     one : Agrees c (chosen w s) Wanted Plain
@@ -581,13 +582,13 @@ plain x (Choose w c d) h apart Wanted Plain s t opens agree f = ⊎_elim
     reached e =
         let r = back x c loops.0 apart.0 (chosen w s) e.0 one-opens e.1 in
         (r.0, r.1, (one r.0 (leaves x c loops.0 apart.0 (chosen w s) r.0 one-opens r.1)).1 (subst Plain (sym r.2) e.2))
-plain x (Turn w often c) h apart Wanted Plain s t opens agree f =
-    let part = part-loops 0 None often (written c) h in
-    turn-plain x w often c (loop-takes 0 often (written c) h) apart.1 (leaves x c part apart.0) (back x c part apart.0) (plain x c part apart.0) Wanted Plain s
-    t opens agree f
-plain x (Again w often c) h apart Wanted Plain s t opens agree f =
-    let part = part-loops 1 None often (written c) h in
-    again-plain x w often c (loop-takes 1 often (written c) h) apart.1 (leaves x c part apart.0) (back x c part apart.0) (plain x c part apart.0) Wanted Plain
+plain x (Turn w greedy c) h apart Wanted Plain s t opens agree f =
+    let part = part-loops 0 None greedy (written c) h in
+    turn-plain x w greedy c (loop-takes 0 greedy (written c) h) apart.1 (leaves x c part apart.0) (back x c part apart.0) (plain x c part apart.0) Wanted Plain
+    s t opens agree f
+plain x (Again w greedy c) h apart Wanted Plain s t opens agree f =
+    let part = part-loops 1 None greedy (written c) h in
+    again-plain x w greedy c (loop-takes 1 greedy (written c) h) apart.1 (leaves x c part apart.0) (back x c part apart.0) (plain x c part apart.0) Wanted Plain
     s t opens agree f
 plain x (Within slot c) h apart Wanted Plain s t opens agree f = (
   mark f.0,

@@ -16,7 +16,7 @@ use Rattle.rsc_nfa.specs.Classes.{has_unicode, AreInterchangedBy}
 use Rattle.rsc_nfa.specs.Steps.{IsStep, StepsTo}
 use Rattle.rsc_engine.specs.Searches.{Search}
 use Rattle.rsc_engine.specs.LawfulLayout.{Lawful}
-use Rattle.rsc_engine.specs.RowsLayout.{Machine, machine_of, around, middle, Follows, Moves, IsNear, Alike, IsPlainUnit, IsPlan}
+use Rattle.rsc_engine.specs.RowsLayout.{Machine, machine_of, around, middle, Stays, Moves, IsNear, Alike, IsPlainUnit, IsPlan}
 use Rattle.rsc_engine.specs.PassTableLayout.{AreHolding}
 
 -- ---- the small haystack
@@ -222,7 +222,7 @@ module _ (w : Lawful) (classes : List ℕ) (m : Machine) (width : ℕ) (unicode 
       (w.to plan.groups m.states m.terminator m.word_chars (around p n) (length (around p n)) (s, middle p) (u, i) plan.faultless x)).0 x)
 
   follows_alike : (p q n o : Option ℕ) (s u : ℕ) → Alike classes p q → Alike classes n o → IsPlainUnit m p → IsPlainUnit m q → IsPlainUnit m n
-      → IsPlainUnit m o → Follows m (around p n) (middle p) s u → Follows m (around q o) (middle q) s u
+      → IsPlainUnit m o → Stays m (around p n) (middle p) s u → Stays m (around q o) (middle q) s u
   follows_alike p q n o s u a b pp pq pn po x =
       subst (λ (at : ℕ). IsStep m.states m.terminator m.word_chars (around q o) (length (around q o)) (s, at) (u, at)) (Alike-middle classes p q a)
       (step_alike p q n o s u (middle p) a b pp pq pn po x)
@@ -259,7 +259,7 @@ IsNear-from w classes e width unicode i q o plan within low a b pp pn pq po = re
     n : Option ℕ
     n = byte_after e.haystack i
 
-    follows : (s u : ℕ) → IsStep e.states e.terminator e.word_chars e.haystack e.end (s, i) (u, i) ↔ Follows (machine_of e) (around q o) (middle q) s u
+    follows : (s u : ℕ) → IsStep e.states e.terminator e.word_chars e.haystack e.end (s, i) (u, i) ↔ Stays (machine_of e) (around q o) (middle q) s u
     follows s u = (
       λ x. follows_alike w classes m width unicode plan p q n o s u a b pp pq pn po
           (stays w classes m width unicode plan h (around p n) e.end (length (around p n)) i (middle p) s u (omega (arith, low, within))
@@ -352,7 +352,7 @@ holds-same m h k i j looks a b l x = (b l).0 ((a l).1 x)
 
 pub follows-holding : (e : Search) (i : ℕ) (near : List ℕ) (at : ℕ) (looks : Looks) → AreHolding (machine_of e) e.haystack i looks
     → AreHolding (machine_of e) near at looks
-    → (s u : ℕ) → IsStep e.states e.terminator e.word_chars e.haystack e.end (s, i) (u, i) ↔ Follows (machine_of e) near at s u
+    → (s u : ℕ) → IsStep e.states e.terminator e.word_chars e.haystack e.end (s, i) (u, i) ↔ Stays (machine_of e) near at s u
 follows-holding e i near at looks a b s u = (
   λ x. IsStep-stay e.states e.terminator e.word_chars e.haystack near e.end (length near) i at s u
       (holds-same (machine_of e) e.haystack near i at looks a b) x,

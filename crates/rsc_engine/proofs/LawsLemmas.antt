@@ -13,7 +13,7 @@ use Rattle.rsc_engine.specs.Searches.{Search}
 use Rattle.rsc_engine.specs.Runs.{IsMatchRun, is_accepting}
 use Rattle.rsc_captures.specs.Captured.{Captured}
 use Rattle.rsc_engine.specs.Preferred.{IsFirstMatch, MayBegin, HasNone}
-use Rattle.rsc_engine.specs.NextMatches.{IsOpen, IsEmpty, IsRepeated, IsSplitAt, IsPassed, IsOver, IsNextMatch}
+use Rattle.rsc_engine.specs.NextMatches.{MayBeNext, IsEmpty, IsRepeated, IsSplitAt, IsPassed, IsOver, IsNextMatch}
 use Rattle.rsc_engine.specs.Ends.{IsMatchEnd, IsEarliestEnd}
 use Rattle.rsc_engine.proofs.PatternsLemmas.{goes-forward, goes-takes, takes-at}
 
@@ -109,7 +109,7 @@ pub next_at_start : (e : Search) (patterns : List Pattern) (last : Option ℕ) (
     → ((other : Matched) → HasRunOf e other ↔ IsMatchIn patterns e other) → list_any may_be_empty patterns ≡ false → (e.mode ≡ No → ⊥)
     → IsNextMatch e last captures found → found.span.start ≡ e.start
 next_at_start e patterns last captures found both none anchored f =
-    let opens = f.is_next.opens in ⊎_elim
+    let opens = f.is_next.begins in ⊎_elim
     (λ (later : e.start < (place f.run 0).1).
     let r = opens.anchored anchored e.start (omega arith) later in
     absurd (not_empty e patterns e.start r.run both none r.preferred.is_match r.repeats.empty))
@@ -140,7 +140,7 @@ none_at_start e patterns last other both none over same m =
     (record { start = m.start; end = its_start e patterns other m; anchored = λ a earlier l h. absurd (omega (arith, l, h, same)) })) m
 
 -- in a search that isn't anchored each position of the span is open
-free : (e : Search) (patterns : List Pattern) (last : Option ℕ) (other : Matched) → e.mode ≡ No → IsMatchIn patterns e other → IsOpen e last other.span.start
+free : (e : Search) (patterns : List Pattern) (last : Option ℕ) (other : Matched) → e.mode ≡ No → IsMatchIn patterns e other → MayBeNext e last other.span.start
 free e patterns last other unanchored m = record { start = m.start; end = its_start e patterns other m; anchored = λ a. absurd (a unanchored) }
 
 pub none_between : (e : Search) (patterns : List Pattern) (last : Option ℕ) (captures : Captured) (found other : Matched)

@@ -12,6 +12,7 @@ pub mod CoursesLemmas  -- which way of a course is the first depends on what is 
 pub mod DecidesLayoutLemmas  -- what a list decides as its states are looked at, one after the other
 pub mod EndsLemmas  -- the search up to another end of its span, and the first match to end
 pub mod EnclosesLayoutLemmas  -- where the states of parts lead that are made of parts
+pub mod FirstBytesLayoutLemmas  -- where no byte is with which matches begin, none begins; so a search may as well begin behind such positions
 pub mod FirstEndsLemmas  -- the first end of a pattern is an end, and the only one
 pub mod FirstWaysLemmas  -- the first way of a pattern leads to its first end, depends on what is wanted alone, and is the only one; patterns with the same one
 pub mod FirstsLayoutLemmas  -- steps to a pattern's match go by its ways, and the first path by the first way of a course of it
@@ -28,7 +29,7 @@ pub mod LinesLemmas  -- which lines lie where, and in which no match is
 pub mod LinksLayoutLemmas  -- how single states lead on, and what follows for parts made of parts
 pub mod LogLayoutLemmas  -- the log of the backward pass, from row to row
 pub mod LoopsLemmas  -- how lists of states grow by repetitions
-pub mod NamesLayoutLemmas  -- what the states of parts name that are made of parts, and which features they have
+pub mod NamesLayoutLemmas  -- what the states of parts name that are made of parts, and which assertions they have
 pub mod NeededLayoutLemmas  -- no match is where no byte of the one range is directly after one of the other
 pub mod NextMatchesLemmas  -- which match is next, as the search's start moves on
 pub mod OnePatternLemmas  -- the matches of a program of one pattern, by the pattern alone

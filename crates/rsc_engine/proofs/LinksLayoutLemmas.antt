@@ -59,7 +59,7 @@ Realizes-never states s next is = record {
   complete = λ a i k g h. absurd g;
 }
 
-one_of_one : (b : Bool) → (b || false) ≡ true → b ≡ true
+pub one_of_one : (b : Bool) → (b || false) ≡ true → b ≡ true
 one_of_one true h = refl
 one_of_one false h = h
 
@@ -112,12 +112,12 @@ Realizes-either states s one other next p q is rp rq = record {
 }
 
 -- the part, or nothing
-pub Realizes-choice : (states : List State) (s first next : ℕ) (often : Bool) (p : Pattern) → slice_get states s ≡ Some (choice_of often first next)
-    → Realizes states first next p → Realizes states s next (optional often p)
+pub Realizes-choice : (states : List State) (s first next : ℕ) (greedy : Bool) (p : Pattern) → slice_get states s ≡ Some (choice_of greedy first next)
+    → Realizes states first next p → Realizes states s next (optional greedy p)
 Realizes-choice states s first next true p is r = Realizes-either states s first next next p Empty is r (Realizes-empty states next)
 Realizes-choice states s first next false p is r = Realizes-either states s next first next Empty p is (Realizes-empty states next) r
 
-pub is_choice : (states : List State) (s first next : ℕ) (often : Bool) → slice_get states s ≡ Some (choice_of often first next)
+pub is_choice : (states : List State) (s first next : ℕ) (greedy : Bool) → slice_get states s ≡ Some (choice_of greedy first next)
     → IsChoice states s first next
 is_choice states s first next true is = inl is
 is_choice states s first next false is = inr is
@@ -141,9 +141,9 @@ choice_next states a s i first next c h =
     c
 
 -- the part any number of times, from the state after each time
-pub Realizes-star : (states : List State) (s first next : ℕ) (often : Bool) (p : Pattern) → IsChoice states s first next → Realizes states first s p
-    → Realizes states s next (Repeat 0 None often p)
-Realizes-star states s first next often p c r = record {
+pub Realizes-star : (states : List State) (s first next : ℕ) (greedy : Bool) (p : Pattern) → IsChoice states s first next → Realizes states first s p
+    → Realizes states s next (Repeat 0 None greedy p)
+Realizes-star states s first next greedy p c r = record {
   complete = λ a i k g h. back a g.0 i k g.3 h;
 }
   where
@@ -152,12 +152,12 @@ Realizes-star states s first next often p c r = record {
     back a (suc n) i k t h = choice_first states a s i first next c (r.complete a i t.0 t.1 (back a n t.0 k t.2 h))
 
 -- and from its own state once or more
-pub Realizes-plus : (states : List State) (s first next : ℕ) (often : Bool) (p : Pattern) → IsChoice states s first next → Realizes states first s p
-    → Realizes states first next (Repeat 1 None often p)
-Realizes-plus states s first next often p c r = Realizes-is states first next (Then p (Repeat 0 None often p)) (Repeat 1 None often p)
+pub Realizes-plus : (states : List State) (s first next : ℕ) (greedy : Bool) (p : Pattern) → IsChoice states s first next → Realizes states first s p
+    → Realizes states first next (Repeat 1 None greedy p)
+Realizes-plus states s first next greedy p c r = Realizes-is states first next (Then p (Repeat 0 None greedy p)) (Repeat 1 None greedy p)
     (λ x i j g. back x i j g.0 g.1 g.3)
-    (Realizes-then states first s next p (Repeat 0 None often p) (Realizes-star states s first next often p c r) r)
+    (Realizes-then states first s next p (Repeat 0 None greedy p) (Realizes-star states s first next greedy p c r) r)
   where
-    back : (x : Subject) (i j n : ℕ) → 1 ≤ n → Times (Goes x p) n i j → Goes x (Then p (Repeat 0 None often p)) i j
+    back : (x : Subject) (i j n : ℕ) → 1 ≤ n → Times (Goes x p) n i j → Goes x (Then p (Repeat 0 None greedy p)) i j
     back x i j zero l t = absurd (omega (arith, l))
     back x i j (suc n) l t = (t.0, t.1, (n, omega arith, tt, t.2))

@@ -7,7 +7,7 @@ use Rattle.rsc_engine.specs.declared.dfa.pass_table.PassRow.{PassRow}
 use Rattle.rsc_engine.specs.Searches.{Search}
 use Rattle.rsc_nfa.specs.Steps.{place}
 use Rattle.rsc_engine.specs.OrderedLayout.{IsEndOf}
-use Rattle.rsc_engine.specs.ForwardLayout.{up_to}
+use Rattle.rsc_engine.specs.ForwardLayout.{search_up_to}
 use Rattle.rsc_engine.specs.ArrivalsLayout.{ArrivesOver}
 use Rattle.rsc_engine.specs.BackwardLayout.{IsStartOf, Lists, StandsBackward, GoesBackward, least_with, begins_in}
 use Rattle.rsc_engine.specs.PassTableLayout.{IsPassGrown}
@@ -99,8 +99,8 @@ back-on e classes rows next i least log some on l = record { stands = rw back on
     back = omega (arith, some)
 
 -- where the leftmost-first match begins, by a log of the part of the span up to its end
-pub first-start : (e : Search) (p j at : ℕ) (rows : List PassRow) (log : List ℕ) → IsEndOf e p j → IsLoggedFirst (up_to e j) at rows log
-    → IsStartOf e p j at × IsLogged (up_to e j) at rows log
+pub first-start : (e : Search) (p j at : ℕ) (rows : List PassRow) (log : List ℕ) → IsEndOf e p j → IsLoggedFirst (search_up_to e j) at rows log
+    → IsStartOf e p j at × IsLogged (search_up_to e j) at rows log
 first-start e p j at rows log x first = (
   record {
     run = x.run;
@@ -112,7 +112,7 @@ first-start e p j at rows log x first = (
   logged.1,
 )
   where
-    logged : ((place x.run 0).1 ≡ at) × IsLogged (up_to e j) at rows log
+    logged : ((place x.run 0).1 ≡ at) × IsLogged (search_up_to e j) at rows log
     logged = first x.run (first-down e j x.run (omega (arith, x.end)) (end-high e p j x) x.is_first) x.end
 
 -- ---- along the log

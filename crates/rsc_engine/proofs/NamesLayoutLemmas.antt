@@ -1,4 +1,4 @@
--- What the states of parts name that are made of parts, and which features they have.
+-- What the states of parts name that are made of parts, and which assertions they have.
 use Rattle.std.proofs.Common.{◌≡◌, ℕ, zero, suc, ◌+◌, ◌*◌, ◌<◌, ◌≤◌, ◌⊎◌, ◌||◌, ◌&&◌, nat_lt, inl, inr, ⊎_elim, Bool, true, false, cond, List, [], ◌∷◌, length, slice_get, refl, sym, ap, ◌∙◌, subst, arith, Option, Some, None, true≢false}
 use Rattle.std.specs.List.{list_any}
 use Rattle.std.proofs.lemmas.Bool.{cases_lt}
@@ -7,16 +7,17 @@ use Rattle.std.proofs.lemmas.Option.{slice_get_within}
 use Rattle.rsc_captures.specs.Groups.{GroupLists, all_groups}
 use Rattle.rsc_nfa.specs.declared.state.State.{State}
 use Rattle.rsc_nfa.specs.declared.state.State.TheVariants.{ByteRange, Assert, Fork, Capture, Accept}
-use Rattle.rsc_nfa.specs.declared.error.BuildError.TheVariants.{EmptyRange}
 use Rattle.rsc_look.specs.declared.assertion.Look.{Look}
-use Rattle.rsc_nfa.specs.Classes.{IsOrdered, asserts}
-use Rattle.rsc_nfa.specs.Faults.{target_fault, fault_of_state, fault_in, AreFaultless}
+use Rattle.rsc_nfa.specs.Classes.{asserts}
+use Rattle.rsc_nfa.specs.declared.error.BuildError.{BuildError}
+use Rattle.rsc_nfa.specs.declared.error.BuildError.TheVariants.{OutOfMemory}
+use Rattle.rsc_nfa.specs.Faults.{target_fault, fault_of_state, fault_in, AreFaultless, IsFirstFaulty}
 use Rattle.rsc_engine.specs.Patterns.{Pattern, Empty, Never, Class, Literal, Assertion, Then, Either, Repeat}
-use Rattle.rsc_engine.specs.Features.{Feature, Reversed, Asks, may_occur, has_feature}
+use Rattle.rsc_engine.specs.Asks.{may_occur, asks}
 use Rattle.rsc_engine.specs.EnclosesLayout.{IsOnWay, StaysOnWay, Encloses}
 use Rattle.rsc_engine.specs.LinksLayout.{IsChoice, copies, optional, up_to}
 use Rattle.rsc_engine.proofs.PatternsLemmas.{limit_less, no_less}
-use Rattle.rsc_engine.specs.NamesLayout.{EachOf, RecordsBelow, Lacks, HasOne, Names, LeadsBelow, AreSound}
+use Rattle.rsc_engine.specs.NamesLayout.{EachOf, Fits, asked_by, some_ask, Asserts, Names, LeadsBelow, AreSound}
 
 -- ---- one list of states after the other
 
@@ -41,7 +42,7 @@ each-is : (P Q : State → Type 0) (low high : ℕ) (states : List State) → ((
     → EachOf Q low high states
 each-is P Q low high states f x = λ k state l h is. f state (x k state l h is)
 
-wider : (f : Feature) (low high least most : ℕ) (states : List State) → least ≤ low → high ≤ most → HasOne f low high states → HasOne f least most states
+wider : (f : Look) (low high least most : ℕ) (states : List State) → least ≤ low → high ≤ most → Asserts f low high states → Asserts f least most states
 wider f low high least most states l h r = record {
   state = r.state;
   its = r.its;
@@ -51,14 +52,14 @@ wider f low high least most states l h r = record {
   shows = r.shows;
 }
 
--- no feature
-abbrev pub nothing : Feature → Bool
+-- no assertion
+abbrev pub nothing : Look → Bool
 nothing f = false
 
--- a feature is there exactly if one of two has it
-pub record IsEither (s r q : Feature → Bool) : Type 0 where
-  pub neither : (f : Feature) → s f ≡ false → (r f ≡ false) × (q f ≡ false)
-  pub one : (f : Feature) → s f ≡ true → (r f ≡ true) ⊎ (q f ≡ true)
+-- an assertion is there exactly if one of two has it
+pub record IsEither (s r q : Look → Bool) : Type 0 where
+  pub neither : (f : Look) → s f ≡ false → (r f ≡ false) × (q f ≡ false)
+  pub one : (f : Look) → s f ≡ true → (r f ≡ true) ⊎ (q f ≡ true)
 
 neither_of : (r q : Bool) → (r || q) ≡ false → (r ≡ false) × (q ≡ false)
 neither_of true q e = absurd (true≢false e)
@@ -68,66 +69,53 @@ one_of_both : (r q : Bool) → (r || q) ≡ true → (r ≡ true) ⊎ (q ≡ tru
 one_of_both true q e = inl refl
 one_of_both false q e = inr e
 
-pub either : (r q : Feature → Bool) → IsEither (λ f. r f || q f) r q
+pub either : (r q : Look → Bool) → IsEither (λ f. r f || q f) r q
 either r q = record { neither = λ f e. neither_of (r f) (q f) e; one = λ f e. one_of_both (r f) (q f) e }
 
-pub either_back : (r q : Feature → Bool) → IsEither (λ f. q f || r f) r q
+pub either_back : (r q : Look → Bool) → IsEither (λ f. q f || r f) r q
 either_back r q = record {
   neither = λ f n. let e = neither_of (q f) (r f) n in (e.1, e.0);
   one = λ f o. ⊎_elim (λ (x : q f ≡ true). inr x) (λ (x : r f ≡ true). inl x) (one_of_both (q f) (r f) o);
 }
 
-pub Names-alike : (most : ℕ) (r s : Feature → Bool) (low high : ℕ) (states : List State) → ((f : Feature) → r f ≡ s f) → Names most r low high states
+pub Names-alike : (most : ℕ) (r s : Look → Bool) (low high : ℕ) (states : List State) → ((f : Look) → r f ≡ s f) → Names most r low high states
     → Names most s low high states
 Names-alike most r s low high states same x =
-    record { slots = x.slots; lacks = λ f e. x.lacks f (same f ∙ e); shows = λ f e. x.shows f (same f ∙ e) }
+    record { fits = x.fits; lacks = λ f e. x.lacks f (same f ∙ e); shows = λ f e. x.shows f (same f ∙ e) }
 
-pub Names-joined : (most : ℕ) (s r q : Feature → Bool) (low middle high : ℕ) (states : List State) → IsEither s r q → low ≤ middle → middle ≤ high
+pub Names-joined : (most : ℕ) (s r q : Look → Bool) (low middle high : ℕ) (states : List State) → IsEither s r q → low ≤ middle → middle ≤ high
     → Names most r low middle states → Names most q middle high states → Names most s low high states
 Names-joined most s r q low middle high states e l m x y = record {
-  slots = each-joined (RecordsBelow most) low middle high states x.slots y.slots;
-  lacks = λ f n. each-joined (Lacks f) low middle high states (x.lacks f (e.neither f n).0) (y.lacks f (e.neither f n).1);
+  fits = each-joined (Fits most) low middle high states x.fits y.fits;
+  lacks = λ f n. each-joined (λ (s : State). asserts f s ≡ false) low middle high states (x.lacks f (e.neither f n).0) (y.lacks f (e.neither f n).1);
   shows = λ f o. ⊎_elim
       (λ (z : r f ≡ true). wider f low middle low high states (omega arith) m (x.shows f z))
       (λ (z : q f ≡ true). wider f middle high low high states l (omega arith) (y.shows f z))
       (e.one f o);
 }
 
-pub Names-one : (most : ℕ) (r : Feature → Bool) (low high id : ℕ) (states : List State) (state : State) → id ≡ low → high ≡ low + 1
-    → slice_get states id ≡ Some state → RecordsBelow most state → ((f : Feature) → r f ≡ false → Lacks f state)
-    → ((f : Feature) → r f ≡ true → Lacks f state → ⊥) → Names most r low high states
-Names-one most r low high id states state same one is below lacks shows =
+pub Names-one : (most : ℕ) (r : Look → Bool) (low high id : ℕ) (states : List State) (state : State) → id ≡ low → high ≡ low + 1
+    → slice_get states id ≡ Some state → Fits most state → ((f : Look) → asserts f state ≡ r f) → Names most r low high states
+Names-one most r low high id states state same one is fits has =
     let here : slice_get states low ≡ Some state = subst (λ (n : ℕ). slice_get states n ≡ Some state) same is in
     record {
-      slots = each-one (RecordsBelow most) low high states state one here below;
-      lacks = λ f e. each-one (Lacks f) low high states state one here (lacks f e);
-      shows = λ f e. record { state = low; its = state; from = omega arith; to = omega (arith, one); here = here; shows = shows f e };
+      fits = each-one (Fits most) low high states state one here fits;
+      lacks = λ f e. each-one (λ (s : State). asserts f s ≡ false) low high states state one here (has f ∙ e);
+      shows = λ f e. record { state = low; its = state; from = omega arith; to = omega (arith, one); here = here; shows = has f ∙ e };
     }
-
-pub fork-lacks : (a b : ℕ) (f : Feature) → Lacks f (Fork a b)
-fork-lacks a b Reversed = tt
-fork-lacks a b (Asks look) = refl
-
-pub capture-lacks : (slot next : ℕ) (f : Feature) → Lacks f (Capture slot next)
-capture-lacks slot next Reversed = tt
-capture-lacks slot next (Asks look) = refl
-
-accept-lacks : (p : ℕ) (f : Feature) → Lacks f (Accept p)
-accept-lacks p Reversed = tt
-accept-lacks p (Asks look) = refl
 
 -- a fork
 pub Names-fork : (most low high id a b : ℕ) (states : List State) → id ≡ low → high ≡ low + 1 → slice_get states id ≡ Some (Fork a b)
     → Names most nothing low high states
 Names-fork most low high id a b states same one is =
-    Names-one most nothing low high id states (Fork a b) same one is tt (λ f e. fork-lacks a b f) (λ f e. absurd (true≢false (sym e)))
+    Names-one most nothing low high id states (Fork a b) same one is tt (λ f. refl)
 
 pub or_none : (r : Bool) → (r || false) ≡ r
 or_none true = refl
 or_none false = refl
 
 -- a fork above others
-pub Names-above : (most : ℕ) (r : Feature → Bool) (low last high id a b : ℕ) (states : List State) → low ≤ last → id ≡ last → high ≡ last + 1
+pub Names-above : (most : ℕ) (r : Look → Bool) (low last high id a b : ℕ) (states : List State) → low ≤ last → id ≡ last → high ≡ last + 1
     → slice_get states id ≡ Some (Fork a b) → Names most r low last states → Names most r low high states
 Names-above most r low last high id a b states l same one is x =
     Names-alike most (λ f. r f || nothing f) r low high states (λ f. or_none (r f))
@@ -135,13 +123,13 @@ Names-above most r low last high id a b states l same one is x =
     (Names-fork most last high id a b states same one is))
 
 -- a choice above others
-pub Names-choice : (most : ℕ) (r : Feature → Bool) (low last high id one other : ℕ) (states : List State) → low ≤ last → id ≡ last → high ≡ last + 1
+pub Names-choice : (most : ℕ) (r : Look → Bool) (low last high id one other : ℕ) (states : List State) → low ≤ last → id ≡ last → high ≡ last + 1
     → IsChoice states id one other → Names most r low last states → Names most r low high states
 Names-choice most r low last high id one other states l same more (inl is) x = Names-above most r low last high id one other states l same more is x
 Names-choice most r low last high id one other states l same more (inr is) x = Names-above most r low last high id other one states l same more is x
 
 -- a loop: its choice, and its part
-pub Names-loop : (most : ℕ) (r : Feature → Bool) (low middle last high id one other : ℕ) (states : List State) → id ≡ low → middle ≡ low + 1 → middle ≤ last
+pub Names-loop : (most : ℕ) (r : Look → Bool) (low middle last high id one other : ℕ) (states : List State) → id ≡ low → middle ≡ low + 1 → middle ≤ last
     → high ≡ last → IsChoice states id one other → Names most r middle last states → Names most r low high states
 Names-loop most r low middle last high id one other states same more l end c x =
     Names-joined most r nothing r low middle high states (either nothing r) (omega (arith, more)) (omega (arith, l, end)) (choice c)
@@ -153,78 +141,48 @@ Names-loop most r low middle last high id one other states same more l end c x =
 
 pub Names-none : (most low high : ℕ) (states : List State) → high ≤ low → Names most nothing low high states
 Names-none most low high states l = record {
-  slots = λ k state m h is. absurd (omega (arith, l, m, h));
+  fits = λ k state m h is. absurd (omega (arith, l, m, h));
   lacks = λ f e k state m h is. absurd (omega (arith, l, m, h));
   shows = λ f e. absurd (true≢false (sym e));
 }
 
--- ---- which patterns have a feature
+-- ---- which patterns have an assertion
 
--- a range is reversed where it isn't ordered
-pub range-lacks : (a b next : ℕ) (f : Feature) → has_feature (Class ((a, b) ∷ [])) f ≡ false → Lacks f (ByteRange a b next)
-range-lacks a b next Reversed e = let f : nat_lt b a ≡ false = sym (or_none (nat_lt b a)) ∙ e in grind (arith, nat_tests)
-range-lacks a b next (Asks look) e = refl
+pub between-same : (p : Pattern) (f : Look) → asks f (Then Empty (Then p Empty)) ≡ asks f p
+between-same p f = or_none (asks f p)
 
-pub range-shows : (a b next : ℕ) (f : Feature) → has_feature (Class ((a, b) ∷ [])) f ≡ true → Lacks f (ByteRange a b next) → ⊥
-range-shows a b next Reversed e o = let f : nat_lt b a ≡ true = sym (or_none (nat_lt b a)) ∙ e in grind (arith, nat_tests)
-range-shows a b next (Asks look) e o = true≢false (sym e)
-
-pub assert-lacks : (l : Look) (next : ℕ) (f : Feature) → has_feature (Assertion l) f ≡ false → Lacks f (Assert l next)
-assert-lacks l next Reversed e = tt
-assert-lacks l next (Asks look) e = e
-
-pub assert-shows : (l : Look) (next : ℕ) (f : Feature) → has_feature (Assertion l) f ≡ true → Lacks f (Assert l next) → ⊥
-assert-shows l next Reversed e o = true≢false (sym e)
-assert-shows l next (Asks look) e o = true≢false (sym e ∙ o)
-
-pub none-same : (f : Feature) → has_feature Never f ≡ has_feature (Class []) f
-none-same Reversed = refl
-none-same (Asks look) = refl
-
-pub class-same : (a b : ℕ) (rest : List (ℕ × ℕ)) (f : Feature)
-    → has_feature (Either (Class ((a, b) ∷ [])) (Class rest)) f ≡ has_feature (Class ((a, b) ∷ rest)) f
-class-same a b rest Reversed = ap (λ (r : Bool). r || has_feature (Class rest) Reversed) (or_none (nat_lt b a))
-class-same a b rest (Asks look) = refl
-
-pub literal-same : (b : ℕ) (rest : List ℕ) (f : Feature) → has_feature (Then (Class ((b, b) ∷ [])) (Literal rest)) f ≡ has_feature (Literal (b ∷ rest)) f
-literal-same b rest Reversed = let e : nat_lt b b ≡ false = grind (arith, nat_tests) in rw e refl
-literal-same b rest (Asks look) = refl
-
-pub between-same : (p : Pattern) (f : Feature) → has_feature (Then Empty (Then p Empty)) f ≡ has_feature p f
-between-same p f = or_none (has_feature p f)
-
-pub optional-same : (often : Bool) (p : Pattern) (f : Feature) → has_feature (optional often p) f ≡ has_feature p f
-optional-same true p f = or_none (has_feature p f)
+pub optional-same : (greedy : Bool) (p : Pattern) (f : Look) → asks f (optional greedy p) ≡ asks f p
+optional-same true p f = or_none (asks f p)
 optional-same false p f = refl
 
-pub optional-back : (often : Bool) (p : Pattern) (f : Feature) → has_feature p f ≡ has_feature (optional often p) f
-optional-back often p f = sym (optional-same often p f)
+pub optional-back : (greedy : Bool) (p : Pattern) (f : Look) → asks f p ≡ asks f (optional greedy p)
+optional-back greedy p f = sym (optional-same greedy p f)
 
 -- of a pattern without it no copies have it
-copies-none : (n : ℕ) (p : Pattern) (f : Feature) → has_feature p f ≡ false → has_feature (copies n p) f ≡ false
+copies-none : (n : ℕ) (p : Pattern) (f : Look) → asks f p ≡ false → asks f (copies n p) ≡ false
 copies-none zero p f e = refl
 copies-none (suc n) p f e = rw (e, copies-none n p f e) refl
 
-up_to-none : (often : Bool) (n : ℕ) (p : Pattern) (f : Feature) → has_feature p f ≡ false → has_feature (up_to often n p) f ≡ false
-up_to-none often zero p f e = refl
-up_to-none often (suc n) p f e = optional-same often (Then p (up_to often n p)) f ∙ rw (e, up_to-none often n p f e) refl
+up_to-none : (greedy : Bool) (n : ℕ) (p : Pattern) (f : Look) → asks f p ≡ false → asks f (up_to greedy n p) ≡ false
+up_to-none greedy zero p f e = refl
+up_to-none greedy (suc n) p f e = optional-same greedy (Then p (up_to greedy n p)) f ∙ rw (e, up_to-none greedy n p f e) refl
 
 -- one more, where some state has it already, or none has
 absorbed : (r q : Bool) → (r ≡ false → q ≡ false) → (r || q) ≡ r
 absorbed true q f = refl
 absorbed false q f = f refl
 
-copies-some : (n : ℕ) (p : Pattern) (f : Feature) → has_feature (copies (suc n) p) f ≡ has_feature p f
-copies-some n p f = absorbed (has_feature p f) (has_feature (copies n p) f) (copies-none n p f)
+copies-some : (n : ℕ) (p : Pattern) (f : Look) → asks f (copies (suc n) p) ≡ asks f p
+copies-some n p f = absorbed (asks f p) (asks f (copies n p)) (copies-none n p f)
 
-up_to-some : (often : Bool) (n : ℕ) (p : Pattern) (f : Feature) → has_feature (up_to often (suc n) p) f ≡ has_feature p f
-up_to-some often n p f =
-    optional-same often (Then p (up_to often n p)) f
-    ∙ absorbed (has_feature p f) (has_feature (up_to often n p) f) (up_to-none often n p f)
+up_to-some : (greedy : Bool) (n : ℕ) (p : Pattern) (f : Look) → asks f (up_to greedy (suc n) p) ≡ asks f p
+up_to-some greedy n p f =
+    optional-same greedy (Then p (up_to greedy n p)) f
+    ∙ absorbed (asks f p) (asks f (up_to greedy n p)) (up_to-none greedy n p f)
 
-pub up_to-same : (often : Bool) (n : ℕ) (p : Pattern) (f : Feature) → has_feature (up_to often n p) f ≡ has_feature (Repeat 0 (Some n) often p) f
-up_to-same often zero p f = refl
-up_to-same often (suc n) p f = up_to-some often n p f
+pub up_to-same : (greedy : Bool) (n : ℕ) (p : Pattern) (f : Look) → asks f (up_to greedy n p) ≡ asks f (Repeat 0 (Some n) greedy p)
+up_to-same greedy zero p f = refl
+up_to-same greedy (suc n) p f = up_to-some greedy n p f
 
 occurs : (n m : ℕ) (max : Option ℕ) → 0 < n → may_occur (n + m) max ≡ true
 occurs n m None l = refl
@@ -236,13 +194,13 @@ again_absorbed true b = refl
 again_absorbed false true = refl
 again_absorbed false false = refl
 
-pub counted-same : (n m : ℕ) (max : Option ℕ) (often : Bool) (p : Pattern) (f : Feature)
-    → has_feature (Then (copies n p) (Repeat m (limit_less max n) often p)) f ≡ has_feature (Repeat (n + m) max often p) f
-counted-same zero m max often p f = let none : zero + m ≡ m = omega arith in rw (none, no_less max) refl
-counted-same (suc n) m max often p f =
+pub counted-same : (n m : ℕ) (max : Option ℕ) (greedy : Bool) (p : Pattern) (f : Look)
+    → asks f (Then (copies n p) (Repeat m (limit_less max n) greedy p)) ≡ asks f (Repeat (n + m) max greedy p)
+counted-same zero m max greedy p f = let none : zero + m ≡ m = omega arith in rw (none, no_less max) refl
+counted-same (suc n) m max greedy p f =
     rw (occurs (suc n) m max (omega arith))
-    (ap (λ (r : Bool). r || (may_occur m (limit_less max (suc n)) && has_feature p f)) (copies-some n p f)
-    ∙ again_absorbed (has_feature p f) (may_occur m (limit_less max (suc n))))
+    (ap (λ (r : Bool). r || (may_occur m (limit_less max (suc n)) && asks f p)) (copies-some n p f)
+    ∙ again_absorbed (asks f p) (may_occur m (limit_less max (suc n))))
 
 -- ---- a part of a list of sound states
 
@@ -264,22 +222,22 @@ leads_more high most count (Fork a b) l x = (omega (arith, l, x.0), omega (arith
 leads_more high most count (Capture c to) l x = omega (arith, l, x)
 leads_more high most count (Accept p) l x = x
 
--- a state without a feature above others
-Names-more : (most : ℕ) (r : Feature → Bool) (low last high id : ℕ) (states : List State) (state : State) → low ≤ last → id ≡ last → high ≡ last + 1
-    → slice_get states id ≡ Some state → RecordsBelow most state → ((f : Feature) → Lacks f state) → Names most r low last states
+-- a state that asserts nothing above others
+Names-more : (most : ℕ) (r : Look → Bool) (low last high id : ℕ) (states : List State) (state : State) → low ≤ last → id ≡ last → high ≡ last + 1
+    → slice_get states id ≡ Some state → Fits most state → ((f : Look) → asserts f state ≡ false) → Names most r low last states
     → Names most r low high states
-Names-more most r low last high id states state l same one is below lacks x =
+Names-more most r low last high id states state l same one is fits lacks x =
     Names-alike most (λ f. r f || nothing f) r low high states (λ f. or_none (r f))
     (Names-joined most (λ f. r f || nothing f) r nothing low last high states (either r nothing) l (omega (arith, one)) x
-    (Names-one most nothing last high id states state same one is below (λ f e. lacks f) (λ f e. absurd (true≢false (sym e)))))
+    (Names-one most nothing last high id states state same one is fits lacks))
 
-pub AreSound-alike : (most count : ℕ) (r s : Feature → Bool) (low high first : ℕ) (states : List State) → ((f : Feature) → r f ≡ s f)
+pub AreSound-alike : (most count : ℕ) (r s : Look → Bool) (low high first : ℕ) (states : List State) → ((f : Look) → r f ≡ s f)
     → AreSound most count r low high first states → AreSound most count s low high first states
 AreSound-alike most count r s low high first states same x =
     record { from = x.from; to = x.to; leads = x.leads; names = Names-alike most r s low high states same x.names }
 
 -- the states of a pattern: its part is between records of where it ends and begins
-pub AreSound-pattern : (most count : ℕ) (r : Feature → Bool) (low later last high accept number after start end body first slot : ℕ) (states : List State)
+pub AreSound-pattern : (most count : ℕ) (r : Look → Bool) (low later last high accept number after start end body first slot : ℕ) (states : List State)
     → number < count → start ≡ 2 * number → end ≡ 2 * number + 1 → start < most → end < most → accept ≡ low
     → after ≡ low + 1 → later ≡ low + 2 → later ≤ last → first ≡ last → high ≡ last + 1
     → slice_get states accept ≡ Some (Accept number) → slice_get states after ≡ Some (Capture end accept)
@@ -300,11 +258,11 @@ AreSound-pattern most count r low later last high accept number after start end 
           (each-one Below last high states (Capture start body) eh (subst (λ (s : ℕ). slice_get states s ≡ Some (Capture start body)) ef is_first)
           (inside body x.begins))));
       names = Names-more most r low last high first states (Capture start body) (omega (arith, el, l)) ef eh is_first sm
-          (capture-lacks start body)
+          (λ f. refl)
           (Names-joined most r nothing r low later last states (either nothing r) (omega (arith, el)) l
           (Names-more most nothing low (low + 1) later after states (Capture end accept) (omega arith) eb (omega (arith, el)) is_after
-          em (capture-lacks end accept)
-          (Names-more most nothing low low (low + 1) accept states (Accept number) (omega arith) ea refl is_accept tt (accept-lacks number)
+          em (λ f. refl)
+          (Names-more most nothing low low (low + 1) accept states (Accept number) (omega arith) ea refl is_accept tt (λ f. refl)
           (Names-none most low low states (omega arith))))
           names);
     }
@@ -316,7 +274,7 @@ AreSound-pattern most count r low later last high accept number after start end 
     inside = on_way_below later last high after (omega (arith, eh)) (omega (arith, eb, el, l, eh))
 
 -- the states of a pattern after those of others, and a fork above them
-pub AreSound-more : (most count : ℕ) (r q : Feature → Bool) (low middle last high one other id : ℕ) (states : List State) → low ≤ middle → middle ≤ last
+pub AreSound-more : (most count : ℕ) (r q : Look → Bool) (low middle last high one other id : ℕ) (states : List State) → low ≤ middle → middle ≤ last
     → id ≡ last → high ≡ last + 1 → AreSound most count q low middle other states → AreSound most count r middle last one states
     → slice_get states id ≡ Some (Fork one other) → AreSound most count (λ f. r f || q f) low high id states
 AreSound-more most count r q low middle last high one other id states l m same more x y is = record {
@@ -339,47 +297,34 @@ no_fault : (n s target : ℕ) → target < n → target_fault n s target ≡ Non
 no_fault n s target l = let e : nat_lt target n ≡ true = grind (arith, nat_tests) in rw e refl
 
 state_clear : (groups : GroupLists) (states : List State) (n s : ℕ) (state : State) → LeadsBelow n (length groups) state
-    → RecordsBelow (2 * all_groups groups) state → IsOrdered state → fault_of_state groups n s state ≡ None
-state_clear groups states n s (ByteRange a b next) x y z = let e : nat_lt b a ≡ false = grind (arith, nat_tests) in rw (e, no_fault n s next x) refl
-state_clear groups states n s (Assert l next) x y z = no_fault n s next x
-state_clear groups states n s (Fork a b) x y z = rw (no_fault n s a x.0, no_fault n s b x.1) refl
-state_clear groups states n s (Capture slot next) x y z =
+    → Fits (2 * all_groups groups) state → fault_of_state groups n s state ≡ None
+state_clear groups states n s (ByteRange a b next) x y =
+    let within : a ≤ b = y in let e : nat_lt b a ≡ false = grind (arith, nat_tests) in rw (e, no_fault n s next x) refl
+state_clear groups states n s (Assert l next) x y = no_fault n s next x
+state_clear groups states n s (Fork a b) x y = rw (no_fault n s a x.0, no_fault n s b x.1) refl
+state_clear groups states n s (Capture slot next) x y =
     let below = y in let e : nat_lt slot (2 * all_groups groups) ≡ true = grind (arith, nat_tests) in rw (no_fault n s next x, e) refl
-state_clear groups states n s (Accept p) x y z = let e : nat_lt p (length groups) ≡ true = grind (arith, nat_tests) in rw e refl
+state_clear groups states n s (Accept p) x y = let e : nat_lt p (length groups) ≡ true = grind (arith, nat_tests) in rw e refl
 
--- they have no fault without a reversed range
-pub sound-faultless : (groups : GroupLists) (states : List State) (r : Feature → Bool) (first : ℕ)
-    → AreSound (2 * all_groups groups) (length groups) r 0 (length states) first states → r Reversed ≡ false → AreFaultless groups states
-sound-faultless groups states r first x none = λ s l. go s l (slice_get states s) refl
+-- they have no fault
+pub sound-faultless : (groups : GroupLists) (states : List State) (r : Look → Bool) (first : ℕ)
+    → AreSound (2 * all_groups groups) (length groups) r 0 (length states) first states → AreFaultless groups states
+sound-faultless groups states r first x = λ s l. go s l (slice_get states s) refl
   where
     go : (s : ℕ) → s < length states → (o : Option State) → slice_get states s ≡ o → fault_in groups (length states) s (slice_get states s) ≡ None
     go s l None is = rw is refl
     go s l (Some state) is = rw is
-        (state_clear groups states (length states) s state (x.leads s state (omega arith) l is) (x.names.slots s state (omega arith) l is)
-        (x.names.lacks Reversed none s state (omega arith) l is))
+        (state_clear groups states (length states) s state (x.leads s state (omega arith) l is) (x.names.fits s state (omega arith) l is))
 
-clear_ordered : (groups : GroupLists) (n s : ℕ) (state : State) → fault_of_state groups n s state ≡ None → IsOrdered state
-clear_ordered groups n s (ByteRange a b next) e = decide (nat_lt b a) refl e
-  where
-    decide : (t : Bool) → nat_lt b a ≡ t → cond t (Some (EmptyRange s)) (target_fault n s next) ≡ None → a ≤ b
-    decide true is f = absurd (cc)
-    decide false is f = grind (arith, nat_tests)
-clear_ordered groups n s (Assert l next) e = tt
-clear_ordered groups n s (Fork a b) e = tt
-clear_ordered groups n s (Capture slot next) e = tt
-clear_ordered groups n s (Accept p) e = tt
-
--- and one with such a range
-pub sound-faulty : (groups : GroupLists) (states : List State) (r : Feature → Bool) (first : ℕ)
-    → AreSound (2 * all_groups groups) (length groups) r 0 (length states) first states → AreFaultless groups states → r Reversed ≡ false
-sound-faulty groups states r first x clear = decide (r Reversed) refl
-  where
-    decide : (t : Bool) → r Reversed ≡ t → t ≡ false
-    decide true e =
-        let h = x.names.shows Reversed e in
-        absurd (h.shows (clear_ordered groups (length states) h.state h.its
-        (subst (λ (o : Option State). fault_in groups (length states) h.state o ≡ None) h.here (clear h.state h.to))))
-    decide false e = refl
+-- so there is no automaton of them only where there was no memory
+pub sound-made : (groups : GroupLists) (states : List State) (r : Look → Bool) (first : ℕ) (fault : BuildError)
+    → AreSound (2 * all_groups groups) (length groups) r 0 (length states) first states
+    → ((fault ≡ OutOfMemory) × AreFaultless groups states) ⊎ IsFirstFaulty groups states fault → fault ≡ OutOfMemory
+sound-made groups states r first fault x (inl m) = m.0
+sound-made groups states r first fault x (inr f) = absurd (
+    let none = sound-faultless groups states r first x f.state f.there in
+    let some = f.fault in
+    cc)
 
 -- ---- the assertions of a program
 
@@ -397,16 +342,10 @@ any-none t [] none = refl
 any-none t (x ∷ rest) none = rw (none zero x refl, any-none t rest (λ k state is. none (suc k) state is)) refl
 
 -- they are those of its patterns
-pub sound-asks : (groups : GroupLists) (states : List State) (r : Feature → Bool) (first : ℕ) (look : Look)
-    → AreSound (2 * all_groups groups) (length groups) r 0 (length states) first states → list_any (asserts look) states ≡ r (Asks look)
-sound-asks groups states r first look x = decide (r (Asks look)) refl
+pub sound-asks : (groups : GroupLists) (states : List State) (r : Look → Bool) (first : ℕ) (look : Look)
+    → AreSound (2 * all_groups groups) (length groups) r 0 (length states) first states → list_any (asserts look) states ≡ r look
+sound-asks groups states r first look x = decide (r look) refl
   where
-    is_there : (t : Bool) → (t ≡ false → ⊥) → t ≡ true
-    is_there true f = refl
-    is_there false f = absurd (f refl)
-
-    decide : (t : Bool) → r (Asks look) ≡ t → list_any (asserts look) states ≡ t
-    decide true e =
-        let h = x.names.shows (Asks look) e in any-some (asserts look) states h.state h.its h.here (is_there (asserts look h.its) h.shows)
-    decide false e = any-none (asserts look) states (λ k state is.
-        x.names.lacks (Asks look) e k state (omega arith) (slice_get_within states k state is) is)
+    decide : (t : Bool) → r look ≡ t → list_any (asserts look) states ≡ t
+    decide true e = let h = x.names.shows look e in any-some (asserts look) states h.state h.its h.here h.shows
+    decide false e = any-none (asserts look) states (λ k state is. x.names.lacks look e k state (omega arith) (slice_get_within states k state is) is)

@@ -11,19 +11,7 @@ use Rattle.rsc_engine.specs.Runs.{Leads, is_accepting, HasNoMatch}
 use Rattle.rsc_engine.specs.Preferred.{HasNone}
 use Rattle.rsc_engine.specs.RowsLayout.{machine_of, IsMarked}
 use Rattle.rsc_engine.specs.NeededLayout.{is_in, HasNoPair, mark_of, NeedsPair}
-
--- both parts of a conjunction
-both : (a b : Bool) → IsTrue (a && b) → (a ≡ true) × (b ≡ true)
-both true true t = (refl, refl)
-both true false t = absurd (true≢false (sym t))
-both false b t = absurd (true≢false (sym t))
-
--- a byte from a to b is there
-between : (a b : ℕ) (o : Option ℕ) → IsTrue (is_between a b o) → (x : ℕ) × (o ≡ Some x) × (a ≤ x) × (x ≤ b)
-between a b None t = absurd (true≢false (sym t))
-between a b (Some x) t =
-    let parts = both (nat_le a x) (nat_le x b) t in
-    (x, refl, leb-true a x parts.0, leb-true x b parts.1)
+use Rattle.rsc_engine.proofs.PatternsLemmas.{and_cases, between}
 
 module _ (e : Search) (a b : ℕ × ℕ) (needed : NeedsPair (machine_of e) a b) (none : HasNoPair a b e.haystack e.start e.end) where
   -- whether the byte before the position is of the first range, and in the span
@@ -53,7 +41,7 @@ module _ (e : Search) (a b : ℕ × ℕ) (needed : NeedsPair (machine_of e) a b)
           let byte = between low high (slice_get e.haystack p.1) l.1 in
           let here : slice_index e.haystack p.1 ≡ byte.0 = get_or_from_slice_get e.haystack p.1 byte.0 0 byte.1 in
           let barred : after p.1 ≡ true → ¬ (is_in b byte.0 ≡ true) =
-          λ f y. let parts = both (nat_lt e.start p.1) (is_in a (slice_index e.haystack (p.1 - 1))) f in
+          λ f y. let parts = and_cases (nat_lt e.start p.1) (is_in a (slice_index e.haystack (p.1 - 1))) f in
           none p.1 (ltb-true e.start p.1 parts.0) l.0 (parts.1, rw here y) in
           rw (l.2, l.3, after_byte p.1 byte.0 from here) (needed.passed p.0 (after p.1) (ByteRange low high next) is marked byte.0 byte.2 byte.3 barred)
       go (Some (Assert look next)) is l = to_next next l.1 l.2 (needed.passed p.0 (after p.1) (Assert look next) is marked)

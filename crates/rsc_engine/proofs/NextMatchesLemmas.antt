@@ -11,7 +11,7 @@ use Rattle.rsc_search.specs.declared.anchored.Anchored.TheVariants.{No}
 use Rattle.rsc_engine.specs.Searches.{Search, Compiled, search_in}
 use Rattle.rsc_engine.specs.Runs.{IsMatchOf}
 use Rattle.rsc_engine.specs.Preferred.{IsPreferred, IsLeftmostFirst, HasNone, IsOf}
-use Rattle.rsc_engine.specs.NextMatches.{IsRepeat, IsSplit, IsRepeated, IsPassed, IsOpen, IsNext, IsOver, from_start, steps_left}
+use Rattle.rsc_engine.specs.NextMatches.{IsRepeat, IsSplit, IsRepeated, IsPassed, MayBeNext, IsNext, IsOver, from_start, steps_left}
 use Rattle.rsc_engine.proofs.PreferredLemmas.{is_no, one_preferred, preferred_shift, none_shift}
 
 -- ---- the positions before a search's start
@@ -19,13 +19,13 @@ use Rattle.rsc_engine.proofs.PreferredLemmas.{is_no, one_preferred, preferred_sh
 -- the search's start has moved on to i: each open position before it is passed, and it's open itself, if it's in the span
 pub record IsMoved (e : Search) (last : Option ℕ) (i : ℕ) : Type 0 where
   pub up : e.start ≤ i
-  pub passed : (at : ℕ) → at < i → IsOpen e last at → IsPassed e last at
-  pub opens : i ≤ e.end → IsOpen e last i
+  pub passed : (at : ℕ) → at < i → MayBeNext e last at → IsPassed e last at
+  pub begins : i ≤ e.end → MayBeNext e last i
 
 module _ (e : Search) (i start : ℕ) (last : Option ℕ) (run : List (ℕ × ℕ)) (v : IsMoved (record e { start = start }) last i)
     (f : IsLeftmostFirst (record e { start = i }) run) where
   -- up to the leftmost match from i on, each open position is passed
-  up_to : (at : ℕ) → at < (place run 0).1 → IsOpen (record e { start = start }) last at → IsPassed (record e { start = start }) last at
+  up_to : (at : ℕ) → at < (place run 0).1 → MayBeNext (record e { start = start }) last at → IsPassed (record e { start = start }) last at
   up_to at high o = ⊎_elim
       (λ (l : at < i). v.passed at l o)
       (λ (le : i ≤ at). inl (none_shift e i start at le (f.leftmost at le high)))
@@ -34,18 +34,18 @@ module _ (e : Search) (i start : ℕ) (last : Option ℕ) (run : List (ℕ × �
   from_there : IsPreferred (record e { start = start }) (e.start_state, (place run 0).1) run
   from_there = preferred_shift e i start (e.start_state, (place run 0).1) run f.begins.start (omega (arith, f.begins.start, v.up)) f.preferred
 
-  opens_there : IsOpen (record e { start = start }) last (place run 0).1
-  opens_there = record {
+  begins_there : MayBeNext (record e { start = start }) last (place run 0).1
+  begins_there = record {
     start = omega (arith, v.up, f.begins.start);
     end = f.begins.end;
-    anchored = λ anchored earlier from before. (v.opens (omega (arith, f.begins.start, f.begins.end))).anchored anchored earlier from
+    anchored = λ anchored earlier from before. (v.begins (omega (arith, f.begins.start, f.begins.end))).anchored anchored earlier from
         (omega (arith, before, f.begins.anchored anchored));
   }
 
   -- the leftmost match from i on is the next, unless it's a repeat or splits a character
   pub next_is : ¬ (IsRepeat last run) → ¬ (IsSplit (record e { start = start }) run) → IsNext (record e { start = start }) last run
   next_is no_repeat no_split = record {
-    opens = opens_there;
+    begins = begins_there;
     preferred = from_there;
     no_repeat = no_repeat;
     splits_none = no_split;
@@ -60,11 +60,11 @@ module _ (e : Search) (i start : ℕ) (last : Option ℕ) (run : List (ℕ × �
         (λ (l : at < (place run 0).1). up_to at l o)
         (λ (le : (place run 0).1 ≤ at). let same : at ≡ (place run 0).1 = omega (arith, le, high) in inr (inl (rw same repeated)))
         (cases_lt at (place run 0).1);
-    opens = λ within. record {
+    begins = λ within. record {
       start = omega (arith, v.up, f.begins.start);
       end = within;
       anchored = λ anchored earlier from before. ⊎_elim
-          (λ (l : earlier < (place run 0).1). opens_there.anchored anchored earlier from l)
+          (λ (l : earlier < (place run 0).1). begins_there.anchored anchored earlier from l)
           (λ (le : (place run 0).1 ≤ earlier). let same : earlier ≡ (place run 0).1 = omega (arith, le, before) in rw same repeated)
           (cases_lt earlier (place run 0).1);
     };
@@ -82,7 +82,7 @@ module _ (e : Search) (i start : ℕ) (last : Option ℕ) (run : List (ℕ × �
         (λ (le : (place run 0).1 ≤ at). let same : at ≡ (place run 0).1 = omega (arith, le, high) in
         inr (inr (rw same (record { run = run; preferred = from_there; splits = splits }))))
         (cases_lt at (place run 0).1);
-    opens = λ within. record {
+    begins = λ within. record {
       start = omega (arith, v.up, f.begins.start);
       end = within;
       anchored = λ anchored. absurd (anchored free);
@@ -104,7 +104,7 @@ module _ (e : Search) (i start : ℕ) (last : Option ℕ) (run : List (ℕ × �
         (one_preferred (record e { start = start }) (e.start_state, (place run 0).1) r.run run r.preferred from_there) r.repeats)))
         (cases_eq at (place run 0).1))
         (cases_lt at (place run 0).1);
-    opens = λ within. absurd (omega (arith, within));
+    begins = λ within. absurd (omega (arith, within));
   }
 
 -- what a run records depends on the states alone
@@ -265,7 +265,7 @@ next_not_passed e last run x (inr (inr s)) =
     x.splits_none (subst (λ (y : List (ℕ × ℕ)). IsSplit e y) (one_preferred e (e.start_state, (place run 0).1) s.run run s.preferred x.preferred) s.splits)
 
 pub next_not_over : (e : Search) (last : Option ℕ) (run : List (ℕ × ℕ)) → IsOver e last → ¬ (IsNext e last run)
-next_not_over e last run over x = next_not_passed e last run x (over (place run 0).1 x.opens)
+next_not_over e last run over x = next_not_passed e last run x (over (place run 0).1 x.begins)
 
 -- two preferred runs that begin at one position are one
 same_start : (e : Search) (one other : List (ℕ × ℕ)) → IsPreferred e (e.start_state, (place one 0).1) one
@@ -279,8 +279,8 @@ pub one_next : (e : Search) (last : Option ℕ) (one other : List (ℕ × ℕ)) 
 one_next e last one other x y = ⊎_elim
     (λ (same : (place one 0).1 ≡ (place other 0).1). same_start e one other x.preferred y.preferred same)
     (λ (h : ((place one 0).1 < (place other 0).1) ⊎ ((place other 0).1 < (place one 0).1)). ⊎_elim
-    (λ (l : (place one 0).1 < (place other 0).1). absurd (next_not_passed e last one x (y.passed (place one 0).1 l x.opens)))
-    (λ (l : (place other 0).1 < (place one 0).1). absurd (next_not_passed e last other y (x.passed (place other 0).1 l y.opens)))
+    (λ (l : (place one 0).1 < (place other 0).1). absurd (next_not_passed e last one x (y.passed (place one 0).1 l x.begins)))
+    (λ (l : (place other 0).1 < (place one 0).1). absurd (next_not_passed e last other y (x.passed (place other 0).1 l y.begins)))
     h)
     (cases_order (place one 0).1 (place other 0).1)
 

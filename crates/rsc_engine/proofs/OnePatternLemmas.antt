@@ -142,8 +142,8 @@ module _ {W : Type 0} (chars : W → ℕ → Bool) (program : Compiled W) (p : P
           λ takes i j low before high. none-goes i j (wanted-of found next.preferred.is_in) low high
               (passed-none last i takes (next.passed i before (record {
                 start = low;
-                end = omega (arith, before, next.opens.end);
-                anchored = λ other earlier from l. next.opens.anchored other earlier from (omega (arith, l, before));
+                end = omega (arith, before, next.begins.end);
+                anchored = λ other earlier from l. next.begins.anchored other earlier from (omega (arith, l, before));
               }))),
         )
 
@@ -160,10 +160,10 @@ module _ {W : Type 0} (chars : W → ℕ → Bool) (program : Compiled W) (p : P
     taken-of-one groups utf8 last captures found lists text f =
         let next = built.next input last captures found f in
         record {
-          opens = record {
-            start = next.opens.start;
-            end = next.opens.end;
-            anchored = λ other earlier from l. repeats groups lists last earlier (next.opens.anchored other earlier from l);
+          begins = record {
+            start = next.begins.start;
+            end = next.begins.end;
+            anchored = λ other earlier from l. repeats groups lists last earlier (next.begins.anchored other earlier from l);
           };
           taken = λ empty left. ⊎_elim
               (λ (there : last ≡ Some found.span.start). next.no_repeat (record { empty = empty; there = there }))
@@ -172,8 +172,8 @@ module _ {W : Type 0} (chars : W → ℕ → Bool) (program : Compiled W) (p : P
               left;
           passed = λ at low before. passed-of groups lists utf8 last at text (wanted-of found next.preferred.is_in) low (next.passed at before (record {
             start = low;
-            end = omega (arith, before, next.opens.end);
-            anchored = λ other earlier from l. next.opens.anchored other earlier from (omega (arith, l, before));
+            end = omega (arith, before, next.begins.end);
+            anchored = λ other earlier from l. next.begins.anchored other earlier from (omega (arith, l, before));
           }));
         }
 

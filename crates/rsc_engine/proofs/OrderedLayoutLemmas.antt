@@ -7,7 +7,7 @@ use Rattle.rsc_engine.specs.Searches.{Search}
 use Rattle.rsc_engine.specs.Runs.{Leads}
 use Rattle.rsc_engine.specs.RowsLayout.{machine_of, IsNear}
 use Rattle.rsc_engine.specs.ForwardLayout.{beside}
-use Rattle.rsc_engine.specs.PassesLayout.{Looks, done, again, fork, single, stuck, over, matched, placed}
+use Rattle.rsc_engine.specs.PassesLayout.{Scans, done, again, fork, single, stuck, over, matched, placed}
 use Rattle.rsc_engine.proofs.ForwardStepsLemmas.{same_place}
 
 step_goes : (e : Search) (q r : ℕ × ℕ) → Leads e q r → (r.1 ≡ q.1) ⊎ ((r.1 ≡ q.1 + 1) × (q.1 < e.end))
@@ -36,8 +36,8 @@ module _ (e : Search) (i : ℕ) (near : List ℕ) (at : ℕ) (n : IsNear e i nea
         inr (h.0, (n.moves s q.0 within).0 (subst (λ (r : ℕ × ℕ). Leads e (s, i) r) (same_place q (q.0, i + 1) refl h.0) l)))
         (step_goes e (s, i) q l)
 
-    pub looks-near : (seen : ℕ → Bool) (list next out : List ℕ) (found : Option (ℕ × ℕ)) → Looks small at seen list next out found
-        → Looks e i seen list next out (placed i found)
+    pub looks-near : (seen : ℕ → Bool) (list next out : List ℕ) (found : Option (ℕ × ℕ)) → Scans small at seen list next out found
+        → Scans e i seen list next out (placed i found)
     looks-near seen list next out found (done _ _) = done seen next
     looks-near seen list next out found (again _ s more _ _ _ is l) =
         again seen s more next out (placed i found) is (looks-near seen more next out found l)
@@ -74,8 +74,8 @@ module _ (e : Search) (i : ℕ) (near : List ℕ) (at : ℕ) (n : IsNear e i nea
         (λ (h : (q.1 ≡ i + 1) × (i < e.end)). absurd (omega (arith, h.1, at_end)))
         (step_goes e (s, i) q l)
 
-    pub looks-end : (seen : ℕ → Bool) (list next out : List ℕ) (found : Option (ℕ × ℕ)) → Looks small at seen list next out found
-        → (next2 : List ℕ) → (out2 : List ℕ) × Looks e i seen list next2 out2 (placed i found)
+    pub looks-end : (seen : ℕ → Bool) (list next out : List ℕ) (found : Option (ℕ × ℕ)) → Scans small at seen list next out found
+        → (next2 : List ℕ) → (out2 : List ℕ) × Scans e i seen list next2 out2 (placed i found)
     looks-end seen list next out found (done _ _) next2 = (next2, done seen next2)
     looks-end seen list next out found (again _ s more _ _ _ is l) next2 =
         let rest = looks-end seen more next out found l next2 in (rest.0, again seen s more next2 rest.0 (placed i found) is rest.1)

@@ -9,7 +9,7 @@ use Rattle.rsc_engine.specs.RowsLayout.{Gathers, AreStates, AddsOne}
 use Rattle.rsc_engine.specs.Searches.{Search}
 use Rattle.rsc_engine.specs.Runs.{IsPlace}
 use Rattle.rsc_engine.specs.DecidesLayout.{IsMore}
-use Rattle.rsc_engine.specs.PassesLayout.{Looks, done, again, fork, single, stuck, over, matched}
+use Rattle.rsc_engine.specs.PassesLayout.{Scans, done, again, fork, single, stuck, over, matched}
 use Rattle.rsc_engine.specs.OrderedLayout.{IsWayOn, IsLooked, seen_by}
 use Rattle.rsc_engine.specs.declared.dfa.ordered.Way.TheVariants.{Stuck, One, Over, Two, Match}
 use Rattle.rsc_engine.proofs.ForwardStepsLemmas.{same_place}
@@ -59,20 +59,20 @@ reverse-last stack s = reverse-append stack (s ∷ [])
 pub record IsTraced (e : Search) (i : ℕ) (list : List ℕ) (marks : List Bool) (stack next : List ℕ) : Type 0 where
   pub seen : ℕ → Bool
   pub none_seen : (s : ℕ) → seen s ≡ false
-  pub trace : (out : List ℕ) (found : Option (ℕ × ℕ)) → Looks e i (seen_by marks) (reverse stack) next out found → Looks e i seen list [] out found
+  pub trace : (out : List ℕ) (found : Option (ℕ × ℕ)) → Scans e i (seen_by marks) (reverse stack) next out found → Scans e i seen list [] out found
 
 module _ (e : Search) (i : ℕ) (list : List ℕ) (marks : List Bool) (stack next : List ℕ) (s : ℕ) (l : s < length marks)
     (t : IsTraced e i list marks (stack ++ s ∷ []) next) where
   -- the trace with a state on top
   on : (marks2 : List Bool) (stack2 next2 : List ℕ)
-      → ((out : List ℕ) (found : Option (ℕ × ℕ)) → Looks e i (seen_by marks2) (reverse stack2) next2 out found
-      → Looks e i (seen_by marks) (s ∷ reverse stack) next out found)
+      → ((out : List ℕ) (found : Option (ℕ × ℕ)) → Scans e i (seen_by marks2) (reverse stack2) next2 out found
+      → Scans e i (seen_by marks) (s ∷ reverse stack) next out found)
       → IsTraced e i list marks2 stack2 next2
   on marks2 stack2 next2 f = record {
     seen = t.seen;
     none_seen = t.none_seen;
     trace = λ out found looks. t.trace out found
-        (subst (λ (x : List ℕ). Looks e i (seen_by marks) x next out found) (sym (reverse-last stack s)) (f out found looks));
+        (subst (λ (x : List ℕ). Scans e i (seen_by marks) x next out found) (sym (reverse-last stack s)) (f out found looks));
   }
 
   pub traced-again : get_or marks s false ≡ true → IsTraced e i list marks stack next
@@ -87,7 +87,7 @@ module _ (e : Search) (i : ℕ) (list : List ℕ) (marks : List Bool) (stack nex
     traced-one to way = on (set marks s true) (stack ++ to ∷ []) next (λ out found looks.
         single (seen_by marks) (seen_by (set marks s true)) s to (reverse stack) next out found (more-marked marks s l) fresh there way.0 way.1 way.2
         (λ q leads. let w = way.3 q leads in same_place q (to, i) w.0 w.1)
-        (subst (λ (x : List ℕ). Looks e i (seen_by (set marks s true)) x next out found) (reverse-last stack to) looks))
+        (subst (λ (x : List ℕ). Scans e i (seen_by (set marks s true)) x next out found) (reverse-last stack to) looks))
 
     pub traced-over : (to : ℕ) (new : List ℕ) → IsWayOn e i s (Over to) → AddsOne next to new → IsTraced e i list (set marks s true) stack new
     traced-over to new way adds = on (set marks s true) stack new (λ out found looks.
@@ -97,7 +97,7 @@ module _ (e : Search) (i : ℕ) (list : List ℕ) (marks : List Bool) (stack nex
     pub traced-two : (a b : ℕ) → IsWayOn e i s (Two a b) → IsTraced e i list (set marks s true) ((stack ++ b ∷ []) ++ a ∷ []) next
     traced-two a b way = on (set marks s true) ((stack ++ b ∷ []) ++ a ∷ []) next (λ out found looks.
         fork (seen_by marks) (seen_by (set marks s true)) s a b (reverse stack) next out found (more-marked marks s l) fresh there way
-        (subst (λ (x : List ℕ). Looks e i (seen_by (set marks s true)) x next out found)
+        (subst (λ (x : List ℕ). Scans e i (seen_by (set marks s true)) x next out found)
         (reverse-last (stack ++ b ∷ []) a ∙ ap (λ (x : List ℕ). a ∷ x) (reverse-last stack b)) looks))
 
     pub traced-match : (p : ℕ) → IsWayOn e i s (Match p) → IsLooked e i list (Some p) next
@@ -106,7 +106,7 @@ module _ (e : Search) (i : ℕ) (list : List ℕ) (marks : List Bool) (stack nex
       none_seen = t.none_seen;
       found = Some (s, i);
       looks = t.trace next (Some (s, i))
-          (subst (λ (x : List ℕ). Looks e i (seen_by marks) x next next (Some (s, i))) (sym (reverse-last stack s))
+          (subst (λ (x : List ℕ). Scans e i (seen_by marks) x next next (Some (s, i))) (sym (reverse-last stack s))
           (matched (seen_by marks) s (reverse stack) next fresh there way.0));
       of_pattern = (way.1, refl);
     }
@@ -116,7 +116,7 @@ pub traced-first : (e : Search) (i : ℕ) (list : List ℕ) (marks : List Bool) 
 traced-first e i list marks stack same none = record {
   seen = seen_by marks;
   none_seen = none;
-  trace = λ out found looks. subst (λ (x : List ℕ). Looks e i (seen_by marks) x [] out found) same looks;
+  trace = λ out found looks. subst (λ (x : List ℕ). Scans e i (seen_by marks) x [] out found) same looks;
 }
 
 pub traced-last : (e : Search) (i : ℕ) (list : List ℕ) (marks : List Bool) (stack next : List ℕ) → length stack ≡ 0 → IsTraced e i list marks stack next

@@ -28,14 +28,14 @@ and_turned false false = refl
 
 -- ---- a part that is repeated
 
-pub repeat_empty : (min : ℕ) (max : Option ℕ) (often : Bool) (p : Pattern) → may_be_empty (Repeat min max often p) ≡ (nat_eq min 0 || may_be_empty p)
-repeat_empty zero max often p = refl
-repeat_empty (suc min) max often p = sym (ap (λ (b : Bool). b || may_be_empty p) (ne_eqb (suc min) 0 (λ e. absurd (omega (arith, e)))))
+pub repeat_empty : (min : ℕ) (max : Option ℕ) (greedy : Bool) (p : Pattern) → may_be_empty (Repeat min max greedy p) ≡ (nat_eq min 0 || may_be_empty p)
+repeat_empty zero max greedy p = refl
+repeat_empty (suc min) max greedy p = sym (ap (λ (b : Bool). b || may_be_empty p) (ne_eqb (suc min) 0 (λ e. absurd (omega (arith, e)))))
 
-pub repeat_loops : (min : ℕ) (max : Option ℕ) (often : Bool) (p : Pattern)
-    → loops_take_bytes (Repeat min max often p) ≡ (loops_take_bytes p && (is_some max || not (may_be_empty p)))
-repeat_loops min None often p = and_turned (not (may_be_empty p)) (loops_take_bytes p)
-repeat_loops min (Some max) often p = sym (and_one (loops_take_bytes p))
+pub repeat_loops : (min : ℕ) (max : Option ℕ) (greedy : Bool) (p : Pattern)
+    → loops_take_bytes (Repeat min max greedy p) ≡ (loops_take_bytes p && (is_some max || not (may_be_empty p)))
+repeat_loops min None greedy p = and_turned (not (may_be_empty p)) (loops_take_bytes p)
+repeat_loops min (Some max) greedy p = sym (and_one (loops_take_bytes p))
 
 -- ---- several parts
 

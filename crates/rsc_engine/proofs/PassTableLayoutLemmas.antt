@@ -17,7 +17,7 @@ use Rattle.rsc_engine.specs.declared.dfa.entries.Lead.TheVariants.{Unknown, To, 
 use Rattle.rsc_engine.specs.Searches.{Search}
 use Rattle.rsc_engine.specs.LawfulLayout.{Lawful}
 use Rattle.rsc_engine.specs.RowsLayout.{Machine, machine_of, Alike, IsPlan, IsPlainUnit}
-use Rattle.rsc_engine.specs.ForwardLayout.{pattern_in}
+use Rattle.rsc_engine.specs.ForwardLayout.{found_in}
 use Rattle.rsc_engine.specs.BackwardLayout.{begins_in}
 use Rattle.rsc_engine.specs.PassTableLayout.{column, row_of, plain_row_of, IsPassRow, IsPassStep, IsPassLed, IsPassTo, IsSoundPassRow, IsUnmarked, IsPassStepAt, AreHolding, unit_at, IsBeyondTo, IsBeyondStep, IsBeyondAt, AreFew, IsPassTable, IsPassGrown}
 use Rattle.rsc_engine.proofs.LawfulLayoutLemmas.{Alike-self, Alike-trans}
@@ -346,7 +346,7 @@ led-there m classes old new row unit next x = slice_get_within new next x.leads.
 
 -- ---- a row that isn't marked
 
-pub unmarked-none : (o : Option PassRow) → IsUnmarked o → pattern_in o ≡ None
+pub unmarked-none : (o : Option PassRow) → IsUnmarked o → found_in o ≡ None
 unmarked-none None x = refl
 unmarked-none (Some row) x = x.0
 

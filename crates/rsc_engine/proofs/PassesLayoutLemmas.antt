@@ -5,7 +5,7 @@ use Rattle.rsc_search.specs.declared.anchored.Anchored.TheVariants.{No}
 use Rattle.rsc_engine.specs.Searches.{Search}
 use Rattle.rsc_engine.specs.Preferred.{MayBegin}
 use Rattle.rsc_engine.specs.DecidesLayout.{unseen, Decides, IsLastPlace}
-use Rattle.rsc_engine.specs.PassesLayout.{Looks, done, again, fork, single, stuck, over, matched, Status, Open, Closed, later, answer_of, Opens, IsFound, IsLeftOver, IsDue}
+use Rattle.rsc_engine.specs.PassesLayout.{Scans, done, again, fork, single, stuck, over, matched, Status, Open, Closed, later, answer_of, Opens, IsFound, IsLeftOver, IsDue}
 use Rattle.rsc_engine.specs.RowsLayout.{AddsOne}
 use Rattle.rsc_engine.proofs.DecidesLayoutLemmas.{decides-unseen, decides-append, decides-rest, decides-seen, decides-fork, decides-single, decides-none, decides-over, decides-match, hopeless-of, decides-start}
 
@@ -25,7 +25,7 @@ adds e i claim rest other next t new (inr is) d f =
     (decides-rest e i claim unseen rest other next d (λ all r. (f r).1 (hopeless-of e i claim unseen next t all is.1)))
 
 looks : (e : Search) (i : ℕ) (claim : ℕ × ℕ → Type 0) (rest : Type 0) (seen : ℕ → Bool) (list next out : List ℕ) (found : Option (ℕ × ℕ))
-    → Looks e i seen list next out found → Decides e (i + 1) unseen claim (Decides e i seen claim rest list) next
+    → Scans e i seen list next out found → Decides e (i + 1) unseen claim (Decides e i seen claim rest list) next
     → Decides e (i + 1) unseen claim (After claim rest found) out
 looks e i claim rest seen list next out found (done _ _) d = d
 looks e i claim rest seen list next out found (again _ s more _ _ _ is l) d =
@@ -67,7 +67,7 @@ settled e i Open (inl free) past r = λ at may. r at may.start (omega (arith, ma
 
 -- a look at a list that is due
 pub looked : (e : Search) (i : ℕ) (status : Status) (list out : List ℕ) (found : Option (ℕ × ℕ)) (seen : ℕ → Bool) → ((s : ℕ) → seen s ≡ false)
-    → Looks e i seen list [] out found → IsDue e i status list → Decides e (i + 1) unseen (IsLastPlace e) (IsLeftOver e i (later status found)) out
+    → Scans e i seen list [] out found → IsDue e i status list → Decides e (i + 1) unseen (IsLastPlace e) (IsLeftOver e i (later status found)) out
 looked e i status list out found seen none l d = go found
     (looks e i (IsLastPlace e) (IsLeftOver e i status) seen list [] out found l (decides-unseen e i (IsLastPlace e) seen (IsLeftOver e i status) list none d))
   where

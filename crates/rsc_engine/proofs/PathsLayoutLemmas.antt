@@ -8,10 +8,10 @@ use Rattle.rsc_engine.specs.Preferred.{IsOnce, IsPreferred}
 use Rattle.rsc_engine.specs.Patterns.{Subject, Pattern, subject_of}
 use Rattle.rsc_engine.specs.LinksLayout.{Ends}
 use Rattle.rsc_engine.specs.StepsLayout.{AreSteps, last_place}
-use Rattle.rsc_engine.specs.WaysLayout.{IsBefore, finish, recorded_by}
+use Rattle.rsc_engine.specs.WaysLayout.{StepsBefore, finish, recorded_by}
 use Rattle.rsc_engine.specs.Courses.{Stand, chosen, IsNew, begin, IsFirstNew}
 use Rattle.rsc_engine.specs.PreferredWays.{IsPreferredWay}
-use Rattle.rsc_engine.specs.PathsLayout.{by_state, Leads, IsPath, Before, Least, arrive, places, IsPathOf}
+use Rattle.rsc_engine.specs.PathsLayout.{by_state, PathLeads, IsPath, Before, Least, arrive, places, IsPathOf}
 use Rattle.rsc_engine.proofs.CoursesLayoutLemmas.{path_within}
 use Rattle.rsc_engine.proofs.RenamedLayoutLemmas.{front, at_front}
 use Rattle.rsc_engine.proofs.StepsLayoutLemmas.{IsAmong, AreDistinct, steps_of, is_run_of, last_is}
@@ -29,7 +29,7 @@ use Rattle.rsc_engine.proofs.PatternOrderLemmas.{before_is, same_accepts, record
 
 -- ---- from a path to steps
 
-leads_step : (o : Option State) (x : Subject) (end f : ℕ) (s : Stand) (g : ℕ) → Leads o x end f s g
+leads_step : (o : Option State) (x : Subject) (end f : ℕ) (s : Stand) (g : ℕ) → PathLeads o x end f s g
     → MatchOption o ⊥ (λ (y : State). StepsTo y x.terminator x.word_chars x.haystack end s.at (g, (by_state o f s).at))
 leads_step None x end f s g leads = absurd leads
 leads_step (Some (ByteRange a b next)) x end f s g leads = (leads.0, leads.1, leads.2, refl)
@@ -83,7 +83,7 @@ path_records states f s (g ∷ rest) =
     ∙ path_records states g next rest
 
 pub before_places : (states : List State) (f : ℕ) (s : Stand) (one other : List ℕ) → Before states f one other
-    → IsBefore states (f, s.at) (places states f s one) (places states f s other)
+    → StepsBefore states (f, s.at) (places states f s one) (places states f s other)
 before_places states f s [] other b = absurd b
 before_places states f s (g ∷ one) [] b = absurd b
 before_places states f s (g ∷ one) (h ∷ other) (inl b) = inl (b.0, b.1, b.2, b.3, b.4)
@@ -91,14 +91,14 @@ before_places states f s (g ∷ one) (h ∷ other) (inr b) =
     let next : Stand = by_state (slice_get states f) f s in
     inr (
       ap (λ (k : ℕ). (k, next.at)) b.0,
-      subst (λ (k : ℕ). IsBefore states (g, next.at) (places states g next one) (places states k next other)) b.0
+      subst (λ (k : ℕ). StepsBefore states (g, next.at) (places states g next one) (places states k next other)) b.0
           (before_places states g next one other b.1),
     )
 
 -- ---- a path comes to no fork twice at one position
 
 -- a step stays at the position, and then what was made stays made; or it takes a byte
-stays_made : (o : Option State) (x : Subject) (end f w g : ℕ) (s : Stand) → Leads o x end f s g
+stays_made : (o : Option State) (x : Subject) (end f w g : ℕ) (s : Stand) → PathLeads o x end f s g
     → (((by_state o f s).at ≡ s.at) × (Contains s.made w → Contains (by_state o f s).made w)) ⊎ (s.at < (by_state o f s).at)
 stays_made None x end f w g s leads = absurd leads
 stays_made (Some (ByteRange a b next)) x end f w g s leads = inr (omega arith)
@@ -130,8 +130,8 @@ not_again states x end m f w a b s [] is p made zero l e =
     no_fork q = absurd (cc)
 not_again states x end m f w a b s (g ∷ rest) is p made zero l e =
     let same : f ≡ w = ap (λ (z : ℕ × ℕ). z.0) e in
-    let leads : Leads (Some (Fork a b)) x end f s g =
-    subst (λ (o : Option State). Leads o x end f s g) (ap (λ (k : ℕ). slice_get states k) same ∙ is) p.0 in
+    let leads : PathLeads (Some (Fork a b)) x end f s g =
+    subst (λ (o : Option State). PathLeads o x end f s g) (ap (λ (k : ℕ). slice_get states k) same ∙ is) p.0 in
     leads.0 (subst (λ (k : ℕ). Contains s.made k) (sym same) made)
 not_again states x end m f w a b s [] is p made (suc k) l e = absurd (omega (arith, l))
 not_again states x end m f w a b s (g ∷ rest) is p made (suc k) l e =
@@ -164,7 +164,7 @@ path_forks states x end m f s (g ∷ rest) p zero (suc k) a b before l is same =
 -- a step from a state, if its choice is new
 leads_of : (o : Option State) (x : Subject) (end f : ℕ) (s : Stand) (q : ℕ × ℕ) → IsNew f s
     → MatchOption o ⊥ (λ (y : State). StepsTo y x.terminator x.word_chars x.haystack end s.at q)
-    → Leads o x end f s q.0 × (q.1 ≡ (by_state o f s).at)
+    → PathLeads o x end f s q.0 × (q.1 ≡ (by_state o f s).at)
 leads_of None x end f s q new step = absurd step
 leads_of (Some (ByteRange a b next)) x end f s q new step = ((step.0, step.1, step.2), step.3)
 leads_of (Some (Assert look next)) x end f s q new step = ((step.0, step.1), step.2)
@@ -173,7 +173,7 @@ leads_of (Some (Capture slot next)) x end f s q new step = (step.0, step.1)
 leads_of (Some (Accept r)) x end f s q new step = absurd step
 
 -- what was made was made at places that were seen
-seen_then : (o : Option State) (x : Subject) (end f g : ℕ) (s : Stand) (seen : List (ℕ × ℕ)) → Leads o x end f s g
+seen_then : (o : Option State) (x : Subject) (end f g : ℕ) (s : Stand) (seen : List (ℕ × ℕ)) → PathLeads o x end f s g
     → ((w : ℕ) → Contains s.made w → IsAmong (w, s.at) seen)
     → (w : ℕ) → Contains (by_state o f s).made w → IsAmong (w, (by_state o f s).at) ((f, s.at) ∷ seen)
 seen_then None x end f g s seen leads h w c = absurd leads
@@ -265,7 +265,7 @@ first_path e m i rest preferred accepted within = record { rest = its.rest; leas
         (forks_once e (e.start_state, i) (run_of other) (match_of other p)
         (λ j k c d before l is same. path_forks e.states (subject_of e) e.end m e.start_state (begin i) other p j k c d before l is same))
         (before_is e (e.start_state, i) (places e.states e.start_state (begin i) other) rest
-        (subst (λ (steps : List (ℕ × ℕ)). IsBefore e.states (e.start_state, i) (places e.states e.start_state (begin i) other) steps) its.its
+        (subst (λ (steps : List (ℕ × ℕ)). StepsBefore e.states (e.start_state, i) (places e.states e.start_state (begin i) other) steps) its.its
         (before_places e.states e.start_state (begin i) other its.rest b)))
 
 -- ---- its way

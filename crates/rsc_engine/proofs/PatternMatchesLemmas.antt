@@ -14,13 +14,13 @@ use Rattle.rsc_search.specs.Modes.{pattern_of_mode}
 use Rattle.rsc_engine.specs.Searches.{Search, Compiled, search_in}
 use Rattle.rsc_engine.specs.Runs.{IsMatchRun, HasNoMatch, IsMatchOf}
 use Rattle.rsc_engine.specs.Preferred.{IsPreferred, IsOf, IsFirstMatch, MayBegin, HasNone}
-use Rattle.rsc_engine.specs.NextMatches.{IsRepeated, IsSplitAt, IsPassed, IsOpen, IsOver, IsNextMatch}
+use Rattle.rsc_engine.specs.NextMatches.{IsRepeated, IsSplitAt, IsPassed, MayBeNext, IsOver, IsNextMatch}
 use Rattle.rsc_engine.specs.Patterns.{Pattern, subject_of, IsMatchIn, HasRunOf, Recognizes}
 use Rattle.rsc_engine.specs.PatternOrder.{PrefersLesser, RecordsPreferredWays}
 use Rattle.rsc_engine.specs.Ways.{last_in}
 use Rattle.rsc_engine.specs.GroupNumbers.{as_whole}
 use Rattle.rsc_engine.specs.PreferredWays.{IsPreferredWay}
-use Rattle.rsc_engine.specs.PatternMatches.{NoneGoesOn, IsPreferredOf, HoldRecords, recorded_span, IsFirstOf, HasNoneOf, Repeats, Splits, PrefersThere, IsPassedOf, IsOpenOf, IsNextOfAll, IsOverOf, IsBuiltOf}
+use Rattle.rsc_engine.specs.PatternMatches.{NoneGoesOn, IsPreferredOf, HoldRecords, recorded_span, IsFirstOf, HasNoneOf, Repeats, Splits, PrefersThere, IsPassedOf, MayBeNextOf, IsNextOfAll, IsOverOf, IsBuiltOf}
 use Rattle.rsc_engine.proofs.LawsLemmas.{accepted}
 use Rattle.rsc_engine.proofs.NextMatchesLemmas.{one_next, one_first}
 use Rattle.rsc_engine.proofs.PatternOrderLemmas.{Prefers, is_least}
@@ -95,9 +95,9 @@ passed_of patterns lists e last at its passed = ⊎_elim
     why))
     passed
 
-opens_of : (patterns : List Pattern) (lists : GroupLists) (e : Search) (last : Option ℕ) (at : ℕ) → IsSearchOf patterns lists e → IsOpen e last at
-    → IsOpenOf patterns lists e last at
-opens_of patterns lists e last at its o =
+begins_of : (patterns : List Pattern) (lists : GroupLists) (e : Search) (last : Option ℕ) (at : ℕ) → IsSearchOf patterns lists e → MayBeNext e last at
+    → MayBeNextOf patterns lists e last at
+begins_of patterns lists e last at its o =
     record { start = o.start; end = o.end; anchored = λ a earlier l h. repeated patterns lists e last earlier its (o.anchored a earlier l h) }
 
 -- ---- the first match
@@ -127,7 +127,7 @@ next_of patterns lists e last captures found its f =
     let end = f.is_of.ends.end in
     record {
       records = p.0;
-      opens = opens_of patterns lists e last found.span.start its (subst (λ (i : ℕ). IsOpen e last i) (sym start) f.is_next.opens);
+      begins = begins_of patterns lists e last found.span.start its (subst (λ (i : ℕ). MayBeNext e last i) (sym start) f.is_next.begins);
       preferred = p.1;
       no_repeat = λ r. f.is_next.no_repeat (record {
         empty = sym start ∙ (r.empty ∙ end);
@@ -141,7 +141,7 @@ next_of patterns lists e last captures found its f =
       passed = λ at h o. passed_of patterns lists e last at its (f.is_next.passed at (omega (arith, h, start)) (record {
         start = o.start;
         end = o.end;
-        anchored = λ a earlier l m. f.is_next.opens.anchored a earlier l (omega (arith, h, m, start));
+        anchored = λ a earlier l m. f.is_next.begins.anchored a earlier l (omega (arith, h, m, start));
       }));
       hold = record { pattern = f.is_of.pattern; slots = λ slot l. f.is_of.records slot l ∙ p.2 slot };
     }
@@ -271,9 +271,9 @@ one_next_of patterns lists e last c d m n x y = (
   where
     start : m.span.start ≡ n.span.start
     start = ⊎_elim
-        (λ (l : m.span.start < n.span.start). absurd (not_passed patterns lists e last c m x (y.passed m.span.start l x.opens)))
+        (λ (l : m.span.start < n.span.start). absurd (not_passed patterns lists e last c m x (y.passed m.span.start l x.begins)))
         (λ (h : n.span.start ≤ m.span.start). ⊎_elim
-        (λ (l : n.span.start < m.span.start). absurd (not_passed patterns lists e last d n y (x.passed n.span.start l y.opens)))
+        (λ (l : n.span.start < m.span.start). absurd (not_passed patterns lists e last d n y (x.passed n.span.start l y.begins)))
         (λ (g : m.span.start ≤ n.span.start). omega (arith, g, h))
         (cases_lt n.span.start m.span.start))
         (cases_lt m.span.start n.span.start)
@@ -283,7 +283,7 @@ one_next_of patterns lists e last c d m n x y = (
 
 pub not_over_of : (patterns : List Pattern) (lists : GroupLists) (e : Search) (last : Option ℕ) (c : Captured) (m : Matched)
     → IsNextOfAll patterns lists e last c m → IsOverOf patterns lists e last → ⊥
-not_over_of patterns lists e last c m x over = not_passed patterns lists e last c m x (over m.span.start x.opens)
+not_over_of patterns lists e last c m x over = not_passed patterns lists e last c m x (over m.span.start x.begins)
 
 -- one run makes one match, with one list of offsets
 of_one_run : (e : Search) (run others : List (ℕ × ℕ)) (c d : Captured) (m n : Matched) → run ≡ others → IsOf e run m c → IsOf e others n d

@@ -13,7 +13,7 @@ use Rattle.rsc_engine.specs.Patterns.{Pattern, Subject, subject_of, HasRunOf}
 use Rattle.rsc_engine.specs.PatternOrder.{PrefersLesser, PrefersFirstEnds, RecordsFirstWays, RecordsWays, RecordsPreferredWays}
 use Rattle.rsc_engine.specs.LinksLayout.{Aim, Ends}
 use Rattle.rsc_engine.specs.StepsLayout.{AreSteps, last_place}
-use Rattle.rsc_engine.specs.WaysLayout.{IsBefore, finish, recorded_by}
+use Rattle.rsc_engine.specs.WaysLayout.{StepsBefore, finish, recorded_by}
 use Rattle.rsc_engine.specs.BeginsLayout.{PrefersFrom, Begins, IsOfOne}
 use Rattle.rsc_engine.specs.FirstsLayout.{OrdersSome}
 use Rattle.rsc_engine.specs.Ways.{GoesWith, last_in}
@@ -62,7 +62,7 @@ PrefersFrom-fork states s one other P Q is b c apart = record { before = each }
     both : (x : Subject) (end m n first : ℕ) (p q r : ℕ × ℕ) (here there : List (ℕ × ℕ)) → PrefersFrom states first → q.0 ≡ first → r.0 ≡ first
         → q.1 ≡ p.1 → r.1 ≡ p.1 → q.1 ≤ end → AreSteps states x end q here → AreSteps states x end r there
         → slice_get states (last_place q here).0 ≡ Some (Accept m) → slice_get states (last_place r there).0 ≡ Some (Accept n) → m < n
-        → IsBefore states p (q ∷ here) (r ∷ there)
+        → StepsBefore states p (q ∷ here) (r ∷ there)
     both x end m n first p q r here there f qf rf qp rp l hs ts hat tat lt =
         let eq : q ≡ r = same_place q r (qf ∙ sym rf) (qp ∙ sym rp) in
         inr (
@@ -73,7 +73,7 @@ PrefersFrom-fork states s one other P Q is b c apart = record { before = each }
 
     each : (x : Subject) (end m n : ℕ) (p : ℕ × ℕ) (here there : List (ℕ × ℕ)) → p.0 ≡ s → p.1 ≤ end → AreSteps states x end p here
         → AreSteps states x end p there → slice_get states (last_place p here).0 ≡ Some (Accept m)
-        → slice_get states (last_place p there).0 ≡ Some (Accept n) → m < n → IsBefore states p here there
+        → slice_get states (last_place p there).0 ≡ Some (Accept n) → m < n → StepsBefore states p here there
     each x end m n p [] there same l hs ts hat tat lt = absurd (not_there p m same hat)
     each x end m n p (q ∷ here) [] same l hs ts hat tat lt = absurd (not_there p n same tat)
     each x end m n p (q ∷ here) (r ∷ there) same l hs ts hat tat lt =
@@ -121,7 +121,7 @@ before_more e p one other x = record {
     together zero l = refl
     together (suc k) l = x.together k (omega (arith, l))
 
-pub before_is : (e : Search) (p : ℕ × ℕ) (one other : List (ℕ × ℕ)) → IsBefore e.states p one other → IsPreferredTo e (p ∷ one) (p ∷ other)
+pub before_is : (e : Search) (p : ℕ × ℕ) (one other : List (ℕ × ℕ)) → StepsBefore e.states p one other → IsPreferredTo e (p ∷ one) (p ∷ other)
 before_is e p [] other b = absurd b
 before_is e p (q ∷ one) [] b = absurd b
 before_is e p (q ∷ one) (r ∷ other) (inl f) = record {

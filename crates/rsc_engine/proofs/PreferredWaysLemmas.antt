@@ -14,12 +14,12 @@ use Rattle.rsc_engine.proofs.RenamedLayoutLemmas.{AreBoth, first_same}
 abbrev LeadsOn : ((Stand → Type 0) → Stand → Stand → Type 0) → (Stand → Stand → Type 0) → Type 1
 LeadsOn First R = (Wanted : Stand → Type 0) (s t : Stand) → First Wanted s t → R s t × Wanted t
 
-turns-goes : (First : (Stand → Type 0) → Stand → Stand → Type 0) (R : Stand → Stand → Type 0) (w : ℕ) (often : Bool) → LeadsOn First R → (n : ℕ)
-    → LeadsOn (λ Such k l. FirstTurns First R w often n Such k l) (Turns R w n)
-turns-goes First R w often on zero Wanted s t f = ((f.0, f.1), f.2)
-turns-goes First R w often on (suc n) Wanted s t f =
+turns-goes : (First : (Stand → Type 0) → Stand → Stand → Type 0) (R : Stand → Stand → Type 0) (w : ℕ) (greedy : Bool) → LeadsOn First R → (n : ℕ)
+    → LeadsOn (λ Such k l. FirstTurns First R w greedy n Such k l) (Turns R w n)
+turns-goes First R w greedy on zero Wanted s t f = ((f.0, f.1), f.2)
+turns-goes First R w greedy on (suc n) Wanted s t f =
     let one = on (Reaches Wanted (SomeTurns R w)) (chosen w s) f.2 f.3 in
-    let rest = turns-goes First R w often on n Wanted f.2 t f.4 in
+    let rest = turns-goes First R w greedy on n Wanted f.2 t f.4 in
     ((f.0, f.2, one.0, rest.0), rest.1)
 
 pub new-goes : (x : Subject) (c : Course) → LeadsOn (λ Such k l. IsFirstNew x c Such k l) (GoesNew x c)
@@ -36,11 +36,11 @@ new-goes x (Choose w c d) Wanted s t f = ⊎_elim
     (λ (g : (Reaches Wanted (GoesNew x c) (chosen w s) → ⊥) × IsFirstNew x d Wanted (chosen w s) t).
     let h = new-goes x d Wanted (chosen w s) t g.1 in ((f.0, inr h.0), h.1))
     f.1
-new-goes x (Turn w often c) Wanted s t f =
-    let g = turns-goes (λ Such k l. IsFirstNew x c Such k l) (GoesNew x c) w often (new-goes x c) f.0 Wanted s t f.1 in ((f.0, g.0), g.1)
-new-goes x (Again w often c) Wanted s t f =
+new-goes x (Turn w greedy c) Wanted s t f =
+    let g = turns-goes (λ Such k l. IsFirstNew x c Such k l) (GoesNew x c) w greedy (new-goes x c) f.0 Wanted s t f.1 in ((f.0, g.0), g.1)
+new-goes x (Again w greedy c) Wanted s t f =
     let one = new-goes x c (Reaches Wanted (SomeTurns (GoesNew x c) w)) s f.0 f.1 in
-    let g = turns-goes (λ Such k l. IsFirstNew x c Such k l) (GoesNew x c) w often (new-goes x c) f.2 Wanted f.0 t f.3 in
+    let g = turns-goes (λ Such k l. IsFirstNew x c Such k l) (GoesNew x c) w greedy (new-goes x c) f.2 Wanted f.0 t f.3 in
     ((f.0, one.0, (f.2, g.0)), g.1)
 new-goes x (Within slot c) Wanted s t f =
     let g = new-goes x c (λ l. Wanted (noted (slot + 1) l)) (noted slot s) f.0 f.1 in
@@ -50,20 +50,20 @@ abbrev IsOne : ((Stand → Type 0) → Stand → Stand → Type 0) → Type 1
 IsOne First = (Wanted : Stand → Type 0) (s t u : Stand) → First Wanted s t → First Wanted s u → t ≡ u
 
 -- where it comes no more it doesn't come once more
-over_or_more : (First : (Stand → Type 0) → Stand → Stand → Type 0) (R : Stand → Stand → Type 0) (w : ℕ) (often : Bool) → LeadsOn First R → (n : ℕ)
-    (Wanted : Stand → Type 0) (s t u : Stand) → FirstTurns First R w often zero Wanted s t → FirstTurns First R w often (suc n) Wanted s u → ⊥
+over_or_more : (First : (Stand → Type 0) → Stand → Stand → Type 0) (R : Stand → Stand → Type 0) (w : ℕ) (greedy : Bool) → LeadsOn First R → (n : ℕ)
+    (Wanted : Stand → Type 0) (s t u : Stand) → FirstTurns First R w greedy zero Wanted s t → FirstTurns First R w greedy (suc n) Wanted s u → ⊥
 over_or_more First R w true on n Wanted s t u f g =
     let one = on (Reaches Wanted (SomeTurns R w)) (chosen w s) g.2 g.3 in f.3 refl (g.2, one.0, one.1)
 over_or_more First R w false on n Wanted s t u f g = g.1 refl (subst Wanted f.1 f.2)
 
-turns-one : (First : (Stand → Type 0) → Stand → Stand → Type 0) (R : Stand → Stand → Type 0) (w : ℕ) (often : Bool) → LeadsOn First R → IsOne First
-    → (m n : ℕ) (Wanted : Stand → Type 0) (s t u : Stand) → FirstTurns First R w often m Wanted s t → FirstTurns First R w often n Wanted s u → t ≡ u
-turns-one First R w often on one zero zero Wanted s t u f g = f.1 ∙ sym g.1
-turns-one First R w often on one zero (suc n) Wanted s t u f g = absurd (over_or_more First R w often on n Wanted s t u f g)
-turns-one First R w often on one (suc m) zero Wanted s t u f g = absurd (over_or_more First R w often on m Wanted s u t g f)
-turns-one First R w often on one (suc m) (suc n) Wanted s t u f g =
+turns-one : (First : (Stand → Type 0) → Stand → Stand → Type 0) (R : Stand → Stand → Type 0) (w : ℕ) (greedy : Bool) → LeadsOn First R → IsOne First
+    → (m n : ℕ) (Wanted : Stand → Type 0) (s t u : Stand) → FirstTurns First R w greedy m Wanted s t → FirstTurns First R w greedy n Wanted s u → t ≡ u
+turns-one First R w greedy on one zero zero Wanted s t u f g = f.1 ∙ sym g.1
+turns-one First R w greedy on one zero (suc n) Wanted s t u f g = absurd (over_or_more First R w greedy on n Wanted s t u f g)
+turns-one First R w greedy on one (suc m) zero Wanted s t u f g = absurd (over_or_more First R w greedy on m Wanted s u t g f)
+turns-one First R w greedy on one (suc m) (suc n) Wanted s t u f g =
     let same = one (Reaches Wanted (SomeTurns R w)) (chosen w s) g.2 f.2 g.3 f.3 in
-    turns-one First R w often on one m n Wanted f.2 t u f.4 (subst (λ (z : Stand). FirstTurns First R w often n Wanted z u) same g.4)
+    turns-one First R w greedy on one m n Wanted f.2 t u f.4 (subst (λ (z : Stand). FirstTurns First R w greedy n Wanted z u) same g.4)
 
 new-one : (x : Subject) (c : Course) → IsOne (λ Such k l. IsFirstNew x c Such k l)
 new-one x Skip Wanted s t u f g = sym f.0 ∙ g.0
@@ -84,12 +84,12 @@ new-one x (Choose w c d) Wanted s t u f g = ⊎_elim
     (λ (z : (Reaches Wanted (GoesNew x c) (chosen w s) → ⊥) × IsFirstNew x d Wanted (chosen w s) u). new-one x d Wanted (chosen w s) t u y.1 z.1)
     g.1)
     f.1
-new-one x (Turn w often c) Wanted s t u f g =
-    turns-one (λ Such k l. IsFirstNew x c Such k l) (GoesNew x c) w often (new-goes x c) (new-one x c) f.0 g.0 Wanted s t u f.1 g.1
-new-one x (Again w often c) Wanted s t u f g =
+new-one x (Turn w greedy c) Wanted s t u f g =
+    turns-one (λ Such k l. IsFirstNew x c Such k l) (GoesNew x c) w greedy (new-goes x c) (new-one x c) f.0 g.0 Wanted s t u f.1 g.1
+new-one x (Again w greedy c) Wanted s t u f g =
     let same = new-one x c (Reaches Wanted (SomeTurns (GoesNew x c) w)) s g.0 f.0 g.1 f.1 in
-    turns-one (λ Such k l. IsFirstNew x c Such k l) (GoesNew x c) w often (new-goes x c) (new-one x c) f.2 g.2 Wanted f.0 t u f.3
-    (subst (λ (z : Stand). FirstTurns (λ Such k l. IsFirstNew x c Such k l) (GoesNew x c) w often g.2 Wanted z u) same g.3)
+    turns-one (λ Such k l. IsFirstNew x c Such k l) (GoesNew x c) w greedy (new-goes x c) (new-one x c) f.2 g.2 Wanted f.0 t u f.3
+    (subst (λ (z : Stand). FirstTurns (λ Such k l. IsFirstNew x c Such k l) (GoesNew x c) w greedy g.2 Wanted z u) same g.3)
 new-one x (Within slot c) Wanted s t u f g =
     f.2 ∙ (ap (λ (z : Stand). noted (slot + 1) z) (new-one x c (λ l. Wanted (noted (slot + 1) l)) (noted slot s) f.0 g.0 f.1 g.1) ∙ sym g.2)
 
@@ -120,27 +120,27 @@ same-copies Is same zero c e h g = from_form c Skip e h g
 same-copies Is same (suc n) c e h g =
     from_form c (After h.0 h.1) e h.2 (g.0, g.1, g.2, same h.0 g.0 h.3 g.3, same-copies Is same n h.1 g.1 h.4 g.4)
 
-same-choice : (often : Bool) (w v : ℕ) (d f : Course) → AreRenamed Any d f → AreRenamed Any (may_come often w d) (may_come often v f)
+same-choice : (greedy : Bool) (w v : ℕ) (d f : Course) → AreRenamed Any d f → AreRenamed Any (may_come greedy w d) (may_come greedy v f)
 same-choice true w v d f r = (v, f, Skip, refl, tt, r, refl)
 same-choice false w v d f r = (v, Skip, f, refl, tt, refl, r)
 
 -- a choice of two courses that are alike
-same-come : (often : Bool) (w v : ℕ) (c d e f : Course) → c ≡ may_come often w d → e ≡ may_come often v f → AreRenamed Any d f → AreRenamed Any c e
-same-come often w v c d e f a b r =
-    from_form c (may_come often w d) e a (subst (λ (z : Course). AreRenamed Any (may_come often w d) z) (sym b) (same-choice often w v d f r))
+same-come : (greedy : Bool) (w v : ℕ) (c d e f : Course) → c ≡ may_come greedy w d → e ≡ may_come greedy v f → AreRenamed Any d f → AreRenamed Any c e
+same-come greedy w v c d e f a b r =
+    from_form c (may_come greedy w d) e a (subst (λ (z : Course). AreRenamed Any (may_come greedy w d) z) (sym b) (same-choice greedy w v d f r))
 
-same-most : (Is : Course → Type 0) → AreCourses Is → (often : Bool) (n : ℕ) → AreCourses (AreAtMost Is often n)
-same-most Is same often zero c e h g = from_form c Skip e h g
-same-most Is same often (suc n) c e h g =
-    same-come often h.0 g.0 c (After h.1 h.2) e (After g.1 g.2) h.3 g.3
-    (g.1, g.2, refl, same h.1 g.1 h.4 g.4, same-most Is same often n h.2 g.2 h.5 g.5)
+same-most : (Is : Course → Type 0) → AreCourses Is → (greedy : Bool) (n : ℕ) → AreCourses (AreAtMost Is greedy n)
+same-most Is same greedy zero c e h g = from_form c Skip e h g
+same-most Is same greedy (suc n) c e h g =
+    same-come greedy h.0 g.0 c (After h.1 h.2) e (After g.1 g.2) h.3 g.3
+    (g.1, g.2, refl, same h.1 g.1 h.4 g.4, same-most Is same greedy n h.2 g.2 h.5 g.5)
 
-same-again : (Is : Course → Type 0) → AreCourses Is → (often : Bool) → AreCourses (IsAgain Is often)
-same-again Is same often c e h g = from_form c (Again h.0 often h.1) e h.2 (g.0, g.1, g.2, tt, same h.1 g.1 h.3 g.3)
+same-again : (Is : Course → Type 0) → AreCourses Is → (greedy : Bool) → AreCourses (IsAgain Is greedy)
+same-again Is same greedy c e h g = from_form c (Again h.0 greedy h.1) e h.2 (g.0, g.1, g.2, tt, same h.1 g.1 h.3 g.3)
 
-same-star : (Is : Course → Type 0) → AreCourses Is → (empty often : Bool) → AreCourses (IsStar Is empty often)
-same-star Is same true often c e h g = same-come often h.0 g.0 c h.1 e g.1 h.2 g.2 (same-again Is same often h.1 g.1 h.3 g.3)
-same-star Is same false often c e h g = from_form c (Turn h.0 often h.1) e h.2 (g.0, g.1, g.2, tt, same h.1 g.1 h.3 g.3)
+same-star : (Is : Course → Type 0) → AreCourses Is → (empty greedy : Bool) → AreCourses (IsStar Is empty greedy)
+same-star Is same true greedy c e h g = same-come greedy h.0 g.0 c h.1 e g.1 h.2 g.2 (same-again Is same greedy h.1 g.1 h.3 g.3)
+same-star Is same false greedy c e h g = from_form c (Turn h.0 greedy h.1) e h.2 (g.0, g.1, g.2, tt, same h.1 g.1 h.3 g.3)
 
 same-course : (p : Pattern) → AreCourses (IsCourseOf p)
 same-course Empty c e h g = from_form c Skip e h g
@@ -153,19 +153,19 @@ same-course (Then a b) c e h g =
     from_form c (After h.0 h.1) e h.2 (g.0, g.1, g.2, same-course a h.0 g.0 h.3 g.3, same-course b h.1 g.1 h.4 g.4)
 same-course (Either a b) c e h g =
     from_form c (Choose h.0 h.1 h.2) e h.3 (g.0, g.1, g.2, g.3, tt, same-course a h.1 g.1 h.4 g.4, same-course b h.2 g.2 h.5 g.5)
-same-course (Repeat zero None often a) c e h g = same-star (IsCourseOf a) (same-course a) (may_be_empty a) often c e h g
-same-course (Repeat zero (Some max) often a) c e h g = same-most (IsCourseOf a) (same-course a) often max c e h g
-same-course (Repeat (suc zero) None often a) c e h g = same-again (IsCourseOf a) (same-course a) often c e h g
-same-course (Repeat (suc (suc min)) None often a) c e h g =
+same-course (Repeat zero None greedy a) c e h g = same-star (IsCourseOf a) (same-course a) (may_be_empty a) greedy c e h g
+same-course (Repeat zero (Some max) greedy a) c e h g = same-most (IsCourseOf a) (same-course a) greedy max c e h g
+same-course (Repeat (suc zero) None greedy a) c e h g = same-again (IsCourseOf a) (same-course a) greedy c e h g
+same-course (Repeat (suc (suc min)) None greedy a) c e h g =
     from_form c (After h.0 h.1) e h.2
-    (g.0, g.1, g.2, same-copies (IsCourseOf a) (same-course a) (suc min) h.0 g.0 h.3 g.3, same-again (IsCourseOf a) (same-course a) often h.1 g.1 h.4 g.4)
-same-course (Repeat (suc min) (Some max) often a) c e h g =
+    (g.0, g.1, g.2, same-copies (IsCourseOf a) (same-course a) (suc min) h.0 g.0 h.3 g.3, same-again (IsCourseOf a) (same-course a) greedy h.1 g.1 h.4 g.4)
+same-course (Repeat (suc min) (Some max) greedy a) c e h g =
     from_form c (After h.0 h.1) e h.2 (
       g.0,
       g.1,
       g.2,
       same-copies (IsCourseOf a) (same-course a) (suc min) h.0 g.0 h.3 g.3,
-      same-most (IsCourseOf a) (same-course a) often (max - suc min) h.1 g.1 h.4 g.4,
+      same-most (IsCourseOf a) (same-course a) greedy (max - suc min) h.1 g.1 h.4 g.4,
     )
 same-course (Group slot a) c e h g = from_form c (Within slot h.0) e h.1 (g.0, g.1, same-course a h.0 g.0 h.2 g.2)
 
@@ -185,8 +185,8 @@ as_many (Choose w c d) e h =
     let one = as_many c h.1 h.5 in
     let other = as_many d h.2 h.6 in
     omega (arith, ap (λ (z : Course). length (choices z)) h.3, one, other, length-append (choices c) (choices d), length-append (choices h.1) (choices h.2))
-as_many (Turn w often c) e h = let one = as_many c h.1 h.4 in omega (arith, ap (λ (z : Course). length (choices z)) h.2, one)
-as_many (Again w often c) e h = let one = as_many c h.1 h.4 in omega (arith, ap (λ (z : Course). length (choices z)) h.2, one)
+as_many (Turn w greedy c) e h = let one = as_many c h.1 h.4 in omega (arith, ap (λ (z : Course). length (choices z)) h.2, one)
+as_many (Again w greedy c) e h = let one = as_many c h.1 h.4 in omega (arith, ap (λ (z : Course). length (choices z)) h.2, one)
 as_many (Within slot c) e h = as_many c h.0 h.2 ∙ ap (λ (z : Course). length (choices z)) (sym h.1)
 
 -- at each place of two lists R holds
@@ -237,10 +237,10 @@ renamed_at R (Choose w c d) e h a =
       renamed_at R c h.1 h.5 (at_left R (choices c) (choices d) (choices h.1) (choices h.2) same rest),
       renamed_at R d h.2 h.6 (at_right R (choices c) (choices d) (choices h.1) (choices h.2) same rest),
     )
-renamed_at R (Turn w often c) e h a =
+renamed_at R (Turn w greedy c) e h a =
     let b : AreAt R (w ∷ choices c) (h.0 ∷ choices h.1) = subst (λ (z : Course). AreAt R (w ∷ choices c) (choices z)) h.2 a in
     (h.0, h.1, h.2, b 0 (omega arith), renamed_at R c h.1 h.4 (at_rest R w h.0 (choices c) (choices h.1) b))
-renamed_at R (Again w often c) e h a =
+renamed_at R (Again w greedy c) e h a =
     let b : AreAt R (w ∷ choices c) (h.0 ∷ choices h.1) = subst (λ (z : Course). AreAt R (w ∷ choices c) (choices z)) h.2 a in
     (h.0, h.1, h.2, b 0 (omega arith), renamed_at R c h.1 h.4 (at_rest R w h.0 (choices c) (choices h.1) b))
 renamed_at R (Within slot c) e h a =

@@ -96,7 +96,7 @@ quiet-records e from p j x s i loud slots new quiet is w len wrote k l =
     -- of the best run from there
     by : (run : List (ℕ × ℕ)) → IsBest e i unseen s run → get_or new k None ≡ recorded e.states x.run k
     by run best =
-        let m = best.is_open.is_match in
+        let m = best.is_unseen.is_match in
         let same : w.front ++ run ≡ x.run = one_preferred e (e.start_state, from) (w.front ++ run) x.run (w.best run best) x.preferred in
         let last : last_of run ≡ last_of x.run = sym (last-behind w.front run m.some) ∙ ap last_of same in
         wrote k l

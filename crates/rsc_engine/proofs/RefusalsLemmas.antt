@@ -5,10 +5,6 @@ use Rattle.std.proofs.lemmas.Bool.Decides.{nat_tests}
 use Rattle.std.proofs.lemmas.List.{get_or_past, length-map}
 use Rattle.std.proofs.lemmas.List.Sums.{sum_by-cons}
 use Rattle.rsc_primitives.specs.Indices.{max_index}
-use Rattle.rsc_nfa.specs.declared.state.State.{State}
-use Rattle.rsc_nfa.specs.declared.error.BuildError.{BuildError}
-use Rattle.rsc_nfa.specs.declared.error.BuildError.TheVariants.{OutOfMemory}
-use Rattle.rsc_nfa.specs.Faults.{AreFaultless, IsFirstFaulty}
 use Rattle.rsc_captures.specs.Groups.{GroupLists, Groups, groups_of, group_count, name_of, stands_before, explicit_before, explicit_groups, all_groups}
 use Rattle.rsc_captures.specs.Faults.{Fault, TooManyPatterns, MissingGroups, FirstMustBeUnnamed, TooManyGroups, Duplicate, pattern_fault, name_fault, explicit_fault, group_fault, IsChecked, IsFirstFault, RefusesFor}
 use Rattle.rsc_engine.specs.declared.error.Error.{Error}
@@ -17,10 +13,7 @@ use Rattle.rsc_engine.specs.Patterns.{Pattern}
 use Rattle.rsc_engine.specs.Sizes.{size_of_program}
 use Rattle.rsc_engine.specs.Parts.{groups_of_part, groups_of_pattern}
 use Rattle.rsc_engine.specs.declared.builder.part.Part.{Part}
-use Rattle.rsc_engine.specs.Features.{some_has}
-use Rattle.rsc_engine.specs.Refusals.{is_out_of_memory, RepeatsName, FailsToBuild, IsErrorOf, are_too_large, error_of, has_a_reversed_range}
-use Rattle.rsc_engine.specs.NamesLayout.{AreSound}
-use Rattle.rsc_engine.proofs.NamesLayoutLemmas.{sound-faultless}
+use Rattle.rsc_engine.specs.Refusals.{RepeatsName, are_too_large, error_of}
 
 -- what holds for a result that is built
 pub built-weaker : {X E : Type 0} (r : Result X E) (P Q : X → Type 0) → ((x : X) → P x → Q x) → IfOk r P → IfOk r Q
@@ -148,7 +141,7 @@ first-kind parts f small (inr w) =
 -- why groups are refused for which there are slots
 pub names-refused : (parts : List Part) (refusal : Option Fault) → 2 * all_groups (map groups_of_pattern parts) ≤ max_index
     → RefusesFor max_index (map groups_of_pattern parts) refusal
-    → (error_of refusal ≡ error.OutOfMemory) ⊎ ((error_of refusal ≡ error.Names) × RepeatsName (map groups_of_pattern parts))
+    → (error_of refusal ≡ error.OutOfMemory) ⊎ ((error_of refusal ≡ error.RepeatedName) × RepeatsName (map groups_of_pattern parts))
 names-refused parts None small r = inl refl
 names-refused parts (Some f) small r =
     let its = first-kind parts f small r in
@@ -167,25 +160,6 @@ pattern_there lists p g l = ⊎_elim
     omega (arith, none)))
     (cases_lt p (length lists))
 
--- ---- a range that is reversed
-
--- why there is no automaton, of states that name what is there
-pub faulty-refused : (limit : ℕ) (groups : GroupLists) (states : List State) (patterns : List Pattern) (first : ℕ) (fault : BuildError)
-    → AreSound (2 * all_groups groups) (length groups) (some_has patterns) 0 (length states) first states
-    → ((fault ≡ OutOfMemory) × AreFaultless groups states) ⊎ IsFirstFaulty groups states fault
-    → are_too_large limit patterns groups ≡ false → ¬ (RepeatsName groups)
-    → IsErrorOf limit patterns groups (cond (is_out_of_memory fault) error.OutOfMemory error.Faulty)
-faulty-refused limit groups states patterns first fault sound (inl r) small once = rw r.0 (inl refl)
-faulty-refused limit groups states patterns first fault sound (inr f) small once = decide (is_out_of_memory fault) (has_a_reversed_range patterns) refl
-  where
-    decide : (t r : Bool) → has_a_reversed_range patterns ≡ r → IsErrorOf limit patterns groups (cond t error.OutOfMemory error.Faulty)
-    decide true r e = inl refl
-    decide false true e = inr (inr (inr (refl, small, once, e)))
-    decide false false e = absurd (
-        let none = sound-faultless groups states (some_has patterns) first sound e f.state f.there in
-        let some = f.fault in
-        cc)
-
 -- ---- patterns that aren't too large
 
 neither : (a b : Bool) → (a || b) ≡ false → (a ≡ false) × (b ≡ false)
@@ -198,9 +172,3 @@ not-large limit patterns lists e =
     let states : nat_lt limit (size_of_program patterns) ≡ false = (neither _ _ e).0 in
     let groups : nat_lt max_index (2 * all_groups lists) ≡ false = (neither _ _ e).1 in
     (grind (arith, nat_tests), grind (arith, nat_tests))
-
-pub in-short : (limit : ℕ) (patterns : List Pattern) (lists : GroupLists) (e : Error) → IsErrorOf limit patterns lists e → FailsToBuild patterns lists e
-in-short limit patterns lists e (inl m) = inl (inl (inl m))
-in-short limit patterns lists e (inr (inl t)) = inl (inl (inr t.0))
-in-short limit patterns lists e (inr (inr (inl n))) = inl (inr (n.0, n.2))
-in-short limit patterns lists e (inr (inr (inr f))) = inr (f.0, f.3, f.2)

@@ -27,10 +27,10 @@ renamed_back R (After c d) e h =
     subst (λ (z : Course). AreRenamed (Back R) z (After c d)) (sym h.2) (c, d, refl, renamed_back R c h.0 h.3, renamed_back R d h.1 h.4)
 renamed_back R (Choose w c d) e h =
     subst (λ (z : Course). AreRenamed (Back R) z (Choose w c d)) (sym h.3) (w, c, d, refl, h.4, renamed_back R c h.1 h.5, renamed_back R d h.2 h.6)
-renamed_back R (Turn w often c) e h =
-    subst (λ (z : Course). AreRenamed (Back R) z (Turn w often c)) (sym h.2) (w, c, refl, h.3, renamed_back R c h.1 h.4)
-renamed_back R (Again w often c) e h =
-    subst (λ (z : Course). AreRenamed (Back R) z (Again w often c)) (sym h.2) (w, c, refl, h.3, renamed_back R c h.1 h.4)
+renamed_back R (Turn w greedy c) e h =
+    subst (λ (z : Course). AreRenamed (Back R) z (Turn w greedy c)) (sym h.2) (w, c, refl, h.3, renamed_back R c h.1 h.4)
+renamed_back R (Again w greedy c) e h =
+    subst (λ (z : Course). AreRenamed (Back R) z (Again w greedy c)) (sym h.2) (w, c, refl, h.3, renamed_back R c h.1 h.4)
 renamed_back R (Within slot c) e h = subst (λ (z : Course). AreRenamed (Back R) z (Within slot c)) (sym h.1) (c, refl, renamed_back R c h.0 h.2)
 
 -- ---- steps of stands that are alike
@@ -117,10 +117,10 @@ goes_same x R (Choose w c d) e o h s u t a g =
     (λ (y : GoesNew x c (chosen w s) t). let k = goes_same x R c h.1 o h.5 (chosen w s) (chosen h.0 u) t b y in (k.0, (new, inl k.1), k.2))
     (λ (y : GoesNew x d (chosen w s) t). let k = goes_same x R d h.2 o h.6 (chosen w s) (chosen h.0 u) t b y in (k.0, (new, inr k.1), k.2))
     g.1)
-goes_same x R (Turn w often c) e o h s u t a g =
+goes_same x R (Turn w greedy c) e o h s u t a g =
     subst (λ (z : Course). Image R (GoesNew x z) u t) (sym h.2)
     (some_turns_same R (GoesNew x c) (GoesNew x h.1) w h.0 o h.3 (λ l m n b y. goes_same x R c h.1 o h.4 l m n b y) s u t a g)
-goes_same x R (Again w often c) e o h s u t a g =
+goes_same x R (Again w greedy c) e o h s u t a g =
     let k = goes_same x R c h.1 o h.4 s u g.0 a g.1 in
     let l = some_turns_same R (GoesNew x c) (GoesNew x h.1) w h.0 o h.3 (λ i m n b y. goes_same x R c h.1 o h.4 i m n b y) g.0 k.0 t k.2 g.2 in
     subst (λ (z : Course). Image R (GoesNew x z) u t) (sym h.2) (l.0, (k.0, k.1, l.1), l.2)
@@ -154,10 +154,10 @@ reaches_both R Wanted Other Goes Also to back w =
 abbrev AreFirst : (ℕ → ℕ → Type 0) → ((Stand → Type 0) → Stand → Stand → Type 0) → ((Stand → Type 0) → Stand → Stand → Type 0) → Type 1
 AreFirst R First Also = (Wanted Other : Stand → Type 0) → AreBoth R Wanted Other → AreSame R (First Wanted) (Also Other)
 
-turns_first : (R : ℕ → ℕ → Type 0) (First Also : (Stand → Type 0) → Stand → Stand → Type 0) (Goes Other : Stand → Stand → Type 0) (v w : ℕ) (often : Bool)
+turns_first : (R : ℕ → ℕ → Type 0) (First Also : (Stand → Type 0) → Stand → Stand → Type 0) (Goes Other : Stand → Stand → Type 0) (v w : ℕ) (greedy : Bool)
     → IsOneToOne R → R v w → AreSame R Goes Other → AreSame (Back R) Other Goes → AreFirst R First Also → (n : ℕ)
-    → AreFirst R (λ Such k l. FirstTurns First Goes v often n Such k l) (λ Such k l. FirstTurns Also Other w often n Such k l)
-turns_first R First Also Goes Other v w often o r to back first zero Wanted Such both s u t a f =
+    → AreFirst R (λ Such k l. FirstTurns First Goes v greedy n Such k l) (λ Such k l. FirstTurns Also Other w greedy n Such k l)
+turns_first R First Also Goes Other v w greedy o r to back first zero Wanted Such both s u t a f =
     let b = chosen_alike R v w s u o r a in
     let here : AreAlike R t (chosen w u) = subst (λ (z : Stand). AreAlike R z (chosen w u)) (sym f.1) b in
     let rounds = reaches_both R Wanted Such (SomeTurns Goes v) (SomeTurns Other w) (some_turns_same R Goes Other v w o r to)
@@ -172,12 +172,12 @@ turns_first R First Also Goes Other v w often o r to back first zero Wanted Such
       ),
       here,
     )
-turns_first R First Also Goes Other v w often o r to back first (suc n) Wanted Such both s u t a f =
+turns_first R First Also Goes Other v w greedy o r to back first (suc n) Wanted Such both s u t a f =
     let b = chosen_alike R v w s u o r a in
     let rounds = reaches_both R Wanted Such (SomeTurns Goes v) (SomeTurns Other w) (some_turns_same R Goes Other v w o r to)
     (some_turns_same (Back R) Other Goes w v (one_back R o) r back) both in
     let k = first (Reaches Wanted (SomeTurns Goes v)) (Reaches Such (SomeTurns Other w)) rounds (chosen v s) (chosen w u) f.2 b f.3 in
-    let l = turns_first R First Also Goes Other v w often o r to back first n Wanted Such both f.2 k.0 t k.2 f.4 in (
+    let l = turns_first R First Also Goes Other v w greedy o r to back first n Wanted Such both f.2 k.0 t k.2 f.4 in (
       l.0,
       (λ m. f.0 (a.back v w r m), λ e y. f.1 e (both.1 (chosen w u) (chosen v s) (alike_back R (chosen v s) (chosen w u) b) y), k.0, k.1, l.1),
       l.2,
@@ -213,17 +213,17 @@ first_same x R (Choose w c d) e o h W O both s u t a f =
     let k = first_same x R d h.2 o h.6 W O both (chosen w s) (chosen h.0 u) t b y.1 in
     (k.0, (new, inr (λ z. y.0 (reach.1 (chosen h.0 u) (chosen w s) (alike_back R (chosen w s) (chosen h.0 u) b) z), k.1)), k.2))
     f.1)
-first_same x R (Turn w often c) e o h W O both s u t a f =
-    let k = turns_first R (λ Such k l. IsFirstNew x c Such k l) (λ Such k l. IsFirstNew x h.1 Such k l) (GoesNew x c) (GoesNew x h.1) w h.0 often o h.3
+first_same x R (Turn w greedy c) e o h W O both s u t a f =
+    let k = turns_first R (λ Such k l. IsFirstNew x c Such k l) (λ Such k l. IsFirstNew x h.1 Such k l) (GoesNew x c) (GoesNew x h.1) w h.0 greedy o h.3
     (goes_same x R c h.1 o h.4) (goes_same x (Back R) h.1 c (one_back R o) (renamed_back R c h.1 h.4)) (first_same x R c h.1 o h.4) f.0 W O both s u t a f.1 in
     subst (λ (z : Course). Image R (λ k l. IsFirstNew x z O k l) u t) (sym h.2) (k.0, (f.0, k.1), k.2)
-first_same x R (Again w often c) e o h W O both s u t a f =
+first_same x R (Again w greedy c) e o h W O both s u t a f =
     let to : AreSame R (GoesNew x c) (GoesNew x h.1) = goes_same x R c h.1 o h.4 in
     let back : AreSame (Back R) (GoesNew x h.1) (GoesNew x c) = goes_same x (Back R) h.1 c (one_back R o) (renamed_back R c h.1 h.4) in
     let rounds = reaches_both R W O (SomeTurns (GoesNew x c) w) (SomeTurns (GoesNew x h.1) h.0) (some_turns_same R (GoesNew x c) (GoesNew x h.1) w h.0 o h.3 to)
     (some_turns_same (Back R) (GoesNew x h.1) (GoesNew x c) h.0 w (one_back R o) h.3 back) both in
     let k = first_same x R c h.1 o h.4 (Reaches W (SomeTurns (GoesNew x c) w)) (Reaches O (SomeTurns (GoesNew x h.1) h.0)) rounds s u f.0 a f.1 in
-    let l = turns_first R (λ Such k l. IsFirstNew x c Such k l) (λ Such k l. IsFirstNew x h.1 Such k l) (GoesNew x c) (GoesNew x h.1) w h.0 often o h.3
+    let l = turns_first R (λ Such k l. IsFirstNew x c Such k l) (λ Such k l. IsFirstNew x h.1 Such k l) (GoesNew x c) (GoesNew x h.1) w h.0 greedy o h.3
     to back (first_same x R c h.1 o h.4) f.2 W O both f.0 k.0 t k.2 f.3 in
     subst (λ (z : Course). Image R (λ k l. IsFirstNew x z O k l) u t) (sym h.2) (l.0, (k.0, k.1, f.2, l.1), l.2)
 first_same x R (Within slot c) e o h W O both s u t a f =
@@ -278,8 +278,8 @@ renamed_itself P (Choose w c d) h =
       renamed_itself P c (in_left P (choices c) (choices d) rest),
       renamed_itself P d (in_right P (choices c) (choices d) rest),
     )
-renamed_itself P (Turn w often c) h = (w, c, refl, (refl, in_front P w (choices c) h), renamed_itself P c (in_rest P w (choices c) h))
-renamed_itself P (Again w often c) h = (w, c, refl, (refl, in_front P w (choices c) h), renamed_itself P c (in_rest P w (choices c) h))
+renamed_itself P (Turn w greedy c) h = (w, c, refl, (refl, in_front P w (choices c) h), renamed_itself P c (in_rest P w (choices c) h))
+renamed_itself P (Again w greedy c) h = (w, c, refl, (refl, in_front P w (choices c) h), renamed_itself P c (in_rest P w (choices c) h))
 renamed_itself P (Within slot c) h = (c, refl, renamed_itself P c h)
 
 -- a choice that is none of the course's may have been made or not

@@ -12,13 +12,13 @@ pub copies-size : (n : ℕ) (p : Pattern) → size_of (copies n p) ≡ n * size_
 copies-size zero p = omega arith
 copies-size (suc n) p = omega (arith, copies-size n p, suc-mul n (size_of p))
 
-pub optional-size : (often : Bool) (p : Pattern) → size_of (optional often p) ≡ size_of p + 1
+pub optional-size : (greedy : Bool) (p : Pattern) → size_of (optional greedy p) ≡ size_of p + 1
 optional-size true p = omega arith
 optional-size false p = omega arith
 
-pub up_to-size : (often : Bool) (n : ℕ) (p : Pattern) → size_of (up_to often n p) ≡ n * (size_of p + 1)
-up_to-size often zero p = omega arith
-up_to-size often (suc n) p = omega (arith, optional-size often (Then p (up_to often n p)), up_to-size often n p, suc-mul n (size_of p + 1))
+pub up_to-size : (greedy : Bool) (n : ℕ) (p : Pattern) → size_of (up_to greedy n p) ≡ n * (size_of p + 1)
+up_to-size greedy zero p = omega arith
+up_to-size greedy (suc n) p = omega (arith, optional-size greedy (Then p (up_to greedy n p)), up_to-size greedy n p, suc-mul n (size_of p + 1))
 
 -- one more copy is among all
 pub copies-room : (done count : ℕ) (p : Pattern) → done < count → size_of (copies done p) + size_of p ≤ size_of (copies count p)
@@ -26,41 +26,41 @@ copies-room done zero p l = absurd (omega (arith, l))
 copies-room zero (suc count) p l = omega arith
 copies-room (suc done) (suc count) p l = omega (arith, copies-room done count p (omega (arith, l)))
 
-pub up_to-room : (often : Bool) (done count : ℕ) (p : Pattern) → done < count
-    → size_of (up_to often done p) + size_of p + 1 ≤ size_of (up_to often count p)
-up_to-room often done zero p l = absurd (omega (arith, l))
-up_to-room often zero (suc count) p l = omega (arith, optional-size often (Then p (up_to often count p)))
-up_to-room often (suc done) (suc count) p l = omega (
+pub up_to-room : (greedy : Bool) (done count : ℕ) (p : Pattern) → done < count
+    → size_of (up_to greedy done p) + size_of p + 1 ≤ size_of (up_to greedy count p)
+up_to-room greedy done zero p l = absurd (omega (arith, l))
+up_to-room greedy zero (suc count) p l = omega (arith, optional-size greedy (Then p (up_to greedy count p)))
+up_to-room greedy (suc done) (suc count) p l = omega (
   arith,
-  optional-size often (Then p (up_to often count p)),
-  optional-size often (Then p (up_to often done p)),
-  up_to-room often done count p (omega (arith, l)),
+  optional-size greedy (Then p (up_to greedy count p)),
+  optional-size greedy (Then p (up_to greedy done p)),
+  up_to-room greedy done count p (omega (arith, l)),
 )
 
 -- what must be there and then a loop
-pub unlimited-size : (n min : ℕ) (often : Bool) (p : Pattern) → n + 1 ≡ min
-    → size_of (Repeat min None often p) ≡ size_of (Repeat 1 None often p) + size_of (copies n p)
-unlimited-size n zero often p e = absurd (omega (arith, e))
-unlimited-size n (suc min) often p e =
+pub unlimited-size : (n min : ℕ) (greedy : Bool) (p : Pattern) → n + 1 ≡ min
+    → size_of (Repeat min None greedy p) ≡ size_of (Repeat 1 None greedy p) + size_of (copies n p)
+unlimited-size n zero greedy p e = absurd (omega (arith, e))
+unlimited-size n (suc min) greedy p e =
     let same : n ≡ min = omega (arith, e) in
     omega (arith, copies-size n p, suc-mul min (size_of p), ap (λ (k : ℕ). k * size_of p) same)
 
 -- a loop that is entered by a choice of its own, and one that isn't
-pub entered-size : (often : Bool) (p : Pattern) → may_be_empty p ≡ true → size_of (Repeat 0 None often p) ≡ size_of p + 2
-entered-size often p e = rw e refl
+pub entered-size : (greedy : Bool) (p : Pattern) → may_be_empty p ≡ true → size_of (Repeat 0 None greedy p) ≡ size_of p + 2
+entered-size greedy p e = rw e refl
 
-pub loop-size : (often : Bool) (p : Pattern) → may_be_empty p ≡ false → size_of (Repeat 0 None often p) ≡ size_of p + 1
-loop-size often p e = rw e refl
+pub loop-size : (greedy : Bool) (p : Pattern) → may_be_empty p ≡ false → size_of (Repeat 0 None greedy p) ≡ size_of p + 1
+loop-size greedy p e = rw e refl
 
 -- what must be there and then what may be
-pub limited-size : (min max : ℕ) (often : Bool) (p : Pattern)
-    → size_of (Repeat min (Some max) often p) ≡ size_of (up_to often (max - min) p) + size_of (copies min p)
-limited-size min max often p = omega (arith, up_to-size often (max - min) p, copies-size min p)
+pub limited-size : (min max : ℕ) (greedy : Bool) (p : Pattern)
+    → size_of (Repeat min (Some max) greedy p) ≡ size_of (up_to greedy (max - min) p) + size_of (copies min p)
+limited-size min max greedy p = omega (arith, up_to-size greedy (max - min) p, copies-size min p)
 
-pub up_to_only-size : (max : ℕ) (often : Bool) (p : Pattern) → size_of (Repeat 0 (Some max) often p) ≡ size_of (up_to often max p)
-up_to_only-size max often p =
+pub up_to_only-size : (max : ℕ) (greedy : Bool) (p : Pattern) → size_of (Repeat 0 (Some max) greedy p) ≡ size_of (up_to greedy max p)
+up_to_only-size max greedy p =
     let all : max - 0 ≡ max = omega arith in
-    omega (arith, up_to-size often max p, ap (λ (k : ℕ). k * (size_of p + 1)) all)
+    omega (arith, up_to-size greedy max p, ap (λ (k : ℕ). k * (size_of p + 1)) all)
 
 -- ---- parts in order, or one of them: a part and those after it
 

@@ -7,8 +7,9 @@ use Rattle.rsc_engine.specs.Patterns.{Pattern, Empty, Never, Class, Literal, Ass
 use Rattle.rsc_engine.specs.LinksLayout.{choice_of, copies, optional, up_to}
 use Rattle.rsc_engine.specs.Courses.{Course, Skip, Dead, Byte, Here, After, Choose, Turn, Again, Within}
 use Rattle.rsc_engine.specs.PreferredWays.{may_come, AreCopies, IsStar, IsCourseOf, choices}
+use Rattle.rsc_engine.specs.CoursesLayout.{Follows}
 use Rattle.rsc_engine.specs.TakesLayout.{AreNumbers, TakesCourse}
-use Rattle.rsc_engine.proofs.CoursesLayoutLemmas.{Follows-skip, Follows-here, Follows-byte, Follows-dead, Follows-after, Follows-choose, Follows-within, Follows-turn, Follows-again}
+use Rattle.rsc_engine.proofs.CoursesLayoutLemmas.{Follows-skip, Follows-here, Follows-byte, Follows-dead, Follows-reversed, Follows-after, Follows-choose, Follows-within, Follows-turn, Follows-again}
 
 -- ---- numbers
 
@@ -87,6 +88,16 @@ pub Takes-range : (low high s a b next : ℕ) (states : List State) → slice_ge
 Takes-range low high s a b next states is =
     record { course = Byte a b; is = refl; follows = Follows-byte states s a b next is; numbers = AreNumbers-none low high }
 
+-- a range whose first byte is above its last takes none
+pub Takes-reversed : (low high s next a b : ℕ) (states : List State) → b < a → TakesCourse low high s next Never states
+    → TakesCourse low high s next (Class ((a, b) ∷ [])) states
+Takes-reversed low high s next a b states less t = record {
+  course = Byte a b;
+  is = refl;
+  follows = Follows-reversed states s next a b less (subst (λ (c : Course). Follows states s next c) t.is t.follows);
+  numbers = AreNumbers-none low high;
+}
+
 pub Takes-assert : (low high s next : ℕ) (look : Look) (states : List State) → slice_get states s ≡ Some (Assert look next)
     → TakesCourse low high s next (Assertion look) states
 Takes-assert low high s next look states is =
@@ -116,8 +127,8 @@ Takes-either low middle last high one other id next p q states l m same top is x
 }
 
 -- the part or nothing, as `optional` has it
-pub Takes-choice : (low last high one id next : ℕ) (often : Bool) (p : Pattern) (states : List State) → low ≤ last → id ≡ last → high ≡ last + 1
-    → slice_get states id ≡ Some (choice_of often one next) → TakesCourse low last one next p states → TakesCourse low high id next (optional often p) states
+pub Takes-choice : (low last high one id next : ℕ) (greedy : Bool) (p : Pattern) (states : List State) → low ≤ last → id ≡ last → high ≡ last + 1
+    → slice_get states id ≡ Some (choice_of greedy one next) → TakesCourse low last one next p states → TakesCourse low high id next (optional greedy p) states
 Takes-choice low last high one id next true p states l same top is x =
     Takes-either low low last high one next id next p Empty states (omega arith) l same top is (Takes-empty low low next states) x
 Takes-choice low last high one id next false p states l same top is x =
@@ -134,33 +145,33 @@ Takes-group low high first body after next slot p states begins closes x = recor
 }
 
 -- a loop that is entered by its turn
-pub Takes-turn : (low high first f next : ℕ) (often : Bool) (p : Pattern) (states : List State) → may_be_empty p ≡ false → f ≡ low → low < high
-    → slice_get states f ≡ Some (choice_of often first next) → TakesCourse (low + 1) high first f p states
-    → TakesCourse low high f next (Repeat 0 None often p) states
-Takes-turn low high first f next often p states taking same some is x = record {
-  course = Turn f often x.course;
-  is = subst (λ (b : Bool). IsStar (IsCourseOf p) b often (Turn f often x.course)) (sym taking) (f, x.course, refl, x.is);
-  follows = Follows-turn states f first next often x.course is x.follows;
+pub Takes-turn : (low high first f next : ℕ) (greedy : Bool) (p : Pattern) (states : List State) → may_be_empty p ≡ false → f ≡ low → low < high
+    → slice_get states f ≡ Some (choice_of greedy first next) → TakesCourse (low + 1) high first f p states
+    → TakesCourse low high f next (Repeat 0 None greedy p) states
+Takes-turn low high first f next greedy p states taking same some is x = record {
+  course = Turn f greedy x.course;
+  is = subst (λ (b : Bool). IsStar (IsCourseOf p) b greedy (Turn f greedy x.course)) (sym taking) (f, x.course, refl, x.is);
+  follows = Follows-turn states f first next greedy x.course is x.follows;
   numbers = AreNumbers-joined low high low (low + 1) (low + 1) high (f ∷ []) (choices x.course) (omega arith) (omega arith) (omega (arith, some)) (omega arith)
       (inl (omega arith)) (AreNumbers-one low (low + 1) f (omega (arith, same)) (omega (arith, same))) x.numbers;
 }
 
 -- and by its first round
-pub Takes-again : (low high first f next : ℕ) (often : Bool) (p : Pattern) (states : List State) → f ≡ low → low < high
-    → slice_get states f ≡ Some (choice_of often first next) → TakesCourse (low + 1) high first f p states
-    → TakesCourse low high first next (Repeat 1 None often p) states
-Takes-again low high first f next often p states same some is x = record {
-  course = Again f often x.course;
+pub Takes-again : (low high first f next : ℕ) (greedy : Bool) (p : Pattern) (states : List State) → f ≡ low → low < high
+    → slice_get states f ≡ Some (choice_of greedy first next) → TakesCourse (low + 1) high first f p states
+    → TakesCourse low high first next (Repeat 1 None greedy p) states
+Takes-again low high first f next greedy p states same some is x = record {
+  course = Again f greedy x.course;
   is = (f, x.course, refl, x.is);
-  follows = Follows-again states f first next often x.course is x.follows;
+  follows = Follows-again states f first next greedy x.course is x.follows;
   numbers = AreNumbers-joined low high low (low + 1) (low + 1) high (f ∷ []) (choices x.course) (omega arith) (omega arith) (omega (arith, some)) (omega arith)
       (inl (omega arith)) (AreNumbers-one low (low + 1) f (omega (arith, same)) (omega (arith, same))) x.numbers;
 }
 
 -- ---- the courses of a part, in the form in which it is built
 
-optional-course : (often : Bool) (p : Pattern) (c : Course) → IsCourseOf (optional often p) c
-    → (w : ℕ) × (d : Course) × (c ≡ may_come often w d) × IsCourseOf p d
+optional-course : (greedy : Bool) (p : Pattern) (c : Course) → IsCourseOf (optional greedy p) c
+    → (w : ℕ) × (d : Course) × (c ≡ may_come greedy w d) × IsCourseOf p d
 optional-course true p c h = (h.0, h.1, h.3 ∙ ap (λ (e : Course). Choose h.0 h.1 e) h.5, h.4)
 optional-course false p c h = (h.0, h.2, h.3 ∙ ap (λ (d : Course). Choose h.0 d h.2) h.4, h.5)
 
@@ -172,33 +183,33 @@ class-course a b (q ∷ rest) some c h = (h.0, h.2, h.3 ∙ ap (λ (d : Course).
 pub byte-course : (b : ℕ) (rest : List ℕ) (c : Course) → IsCourseOf (Then (Class ((b, b) ∷ [])) (Literal rest)) c → IsCourseOf (Literal (b ∷ rest)) c
 byte-course b rest c h = h.2 ∙ (ap (λ (d : Course). After d h.1) h.3 ∙ ap (λ (e : Course). After (Byte b b) e) h.4)
 
-pub star-course : (often : Bool) (p : Pattern) → may_be_empty p ≡ true → (c : Course) → IsCourseOf (optional often (Repeat 1 None often p)) c
-    → IsCourseOf (Repeat 0 None often p) c
-star-course often p empty c h = subst (λ (b : Bool). IsStar (IsCourseOf p) b often c) (sym empty) (optional-course often (Repeat 1 None often p) c h)
+pub star-course : (greedy : Bool) (p : Pattern) → may_be_empty p ≡ true → (c : Course) → IsCourseOf (optional greedy (Repeat 1 None greedy p)) c
+    → IsCourseOf (Repeat 0 None greedy p) c
+star-course greedy p empty c h = subst (λ (b : Bool). IsStar (IsCourseOf p) b greedy c) (sym empty) (optional-course greedy (Repeat 1 None greedy p) c h)
 
 copies-course : (n : ℕ) (p : Pattern) (c : Course) → IsCourseOf (copies n p) c → AreCopies (IsCourseOf p) n c
 copies-course zero p c h = h
 copies-course (suc n) p c h = (h.0, h.1, h.2, h.3, copies-course n p h.1 h.4)
 
-pub up_to-course : (often : Bool) (n : ℕ) (p : Pattern) (c : Course) → IsCourseOf (up_to often n p) c → IsCourseOf (Repeat 0 (Some n) often p) c
-up_to-course often zero p c h = h
-up_to-course often (suc n) p c h =
-    let g = optional-course often (Then p (up_to often n p)) c h in
-    (g.0, g.3.0, g.3.1, g.2 ∙ ap (λ (d : Course). may_come often g.0 d) g.3.2, g.3.3, up_to-course often n p g.3.1 g.3.4)
+pub up_to-course : (greedy : Bool) (n : ℕ) (p : Pattern) (c : Course) → IsCourseOf (up_to greedy n p) c → IsCourseOf (Repeat 0 (Some n) greedy p) c
+up_to-course greedy zero p c h = h
+up_to-course greedy (suc n) p c h =
+    let g = optional-course greedy (Then p (up_to greedy n p)) c h in
+    (g.0, g.3.0, g.3.1, g.2 ∙ ap (λ (d : Course). may_come greedy g.0 d) g.3.2, g.3.3, up_to-course greedy n p g.3.1 g.3.4)
 
-pub limited-course : (min max : ℕ) (often : Bool) (p : Pattern) → 0 < min → (c : Course)
-    → IsCourseOf (Then (copies min p) (Repeat 0 (Some (max - min)) often p)) c → IsCourseOf (Repeat (min + 0) (Some max) often p) c
-limited-course zero max often p some c h = absurd (omega (arith, some))
-limited-course (suc min) max often p some c h =
+pub limited-course : (min max : ℕ) (greedy : Bool) (p : Pattern) → 0 < min → (c : Course)
+    → IsCourseOf (Then (copies min p) (Repeat 0 (Some (max - min)) greedy p)) c → IsCourseOf (Repeat (min + 0) (Some max) greedy p) c
+limited-course zero max greedy p some c h = absurd (omega (arith, some))
+limited-course (suc min) max greedy p some c h =
     let same : suc min ≡ suc min + 0 = omega arith in
-    subst (λ (n : ℕ). IsCourseOf (Repeat n (Some max) often p) c) same (h.0, h.1, h.2, copies-course (suc min) p h.0 h.3, h.4)
+    subst (λ (n : ℕ). IsCourseOf (Repeat n (Some max) greedy p) c) same (h.0, h.1, h.2, copies-course (suc min) p h.0 h.3, h.4)
 
-pub unlimited-course : (min : ℕ) (often : Bool) (p : Pattern) → 1 < min → (c : Course)
-    → IsCourseOf (Then (copies (min - 1) p) (Repeat 1 None often p)) c → IsCourseOf (Repeat (min - 1 + 1) None often p) c
-unlimited-course zero often p some c h = absurd (omega (arith, some))
-unlimited-course (suc zero) often p some c h = absurd (omega (arith, some))
-unlimited-course (suc (suc min)) often p some c h =
+pub unlimited-course : (min : ℕ) (greedy : Bool) (p : Pattern) → 1 < min → (c : Course)
+    → IsCourseOf (Then (copies (min - 1) p) (Repeat 1 None greedy p)) c → IsCourseOf (Repeat (min - 1 + 1) None greedy p) c
+unlimited-course zero greedy p some c h = absurd (omega (arith, some))
+unlimited-course (suc zero) greedy p some c h = absurd (omega (arith, some))
+unlimited-course (suc (suc min)) greedy p some c h =
     let same : suc (suc min) ≡ suc (suc min) - 1 + 1 = omega arith in
     let less : suc (suc min) - 1 ≡ suc min = omega arith in
-    subst (λ (n : ℕ). IsCourseOf (Repeat n None often p) c) same
+    subst (λ (n : ℕ). IsCourseOf (Repeat n None greedy p) c) same
     (h.0, h.1, h.2, copies-course (suc min) p h.0 (subst (λ (n : ℕ). IsCourseOf (copies n p) h.0) less h.3), h.4)

@@ -4,7 +4,7 @@ use Rattle.rsc_nfa.specs.declared.state.State.{State}
 use Rattle.rsc_nfa.specs.declared.state.State.TheVariants.{Fork, Accept}
 use Rattle.rsc_nfa.specs.Steps.{StepsTo}
 use Rattle.rsc_engine.specs.Patterns.{Pattern, Subject}
-use Rattle.rsc_engine.specs.Ways.{Mark, GoesWith}
+use Rattle.rsc_engine.specs.Ways.{Point, GoesWith}
 use Rattle.rsc_engine.specs.StepsLayout.{AreSteps, last_place}
 use Rattle.rsc_engine.specs.WaysLayout.{IsWay, finish, recorded_by}
 use Rattle.rsc_engine.specs.ByWaysLayout.{GoesOnWith}
@@ -41,7 +41,7 @@ finish_last states p (q ∷ rest) earlier = finish_last states q rest (recorded_
 
 -- ---- the first step
 
-pub record Step (states : List State) (x : Subject) (end m : ℕ) (state : State) (from : Mark) (most : ℕ) (last : (ℕ × ℕ) × List (ℕ × ℕ)) : Type 0 where
+pub record Step (states : List State) (x : Subject) (end m : ℕ) (state : State) (from : Point) (most : ℕ) (last : (ℕ × ℕ) × List (ℕ × ℕ)) : Type 0 where
   pub to : ℕ
   pub position : ℕ
   pub rest : List (ℕ × ℕ)
@@ -50,7 +50,7 @@ pub record Step (states : List State) (x : Subject) (end m : ℕ) (state : State
   pub ends : finish states (to, position) rest (recorded_by (Some state) from.0 from.1) ≡ last
   pub fewer : length rest + 1 ≡ most
 
-pub step_on : (states : List State) (x : Subject) (end m s : ℕ) (from : Mark) (state : State) (rest : List (ℕ × ℕ)) → slice_get states s ≡ Some state
+pub step_on : (states : List State) (x : Subject) (end m s : ℕ) (from : Point) (state : State) (rest : List (ℕ × ℕ)) → slice_get states s ≡ Some state
     → may_accept (Some state) ≡ false → IsWay states x end m (s, from.0) rest
     → Step states x end m state from (length rest) (finish states (s, from.0) rest from.1)
 step_on states x end m s from state [] is stays w = absurd (true≢false (sym (ap may_accept w.accepts) ∙ (ap may_accept is ∙ stays)))
@@ -65,7 +65,7 @@ step_on states x end m s from state (q ∷ rest) is stays w = record {
 }
 
 -- one step leads to the next state, and records nothing
-pub arrives_with : (states : List State) (x : Subject) (end m next : ℕ) (p : Pattern) (state : State) (from : Mark) (most : ℕ)
+pub arrives_with : (states : List State) (x : Subject) (end m next : ℕ) (p : Pattern) (state : State) (from : Point) (most : ℕ)
     (last : (ℕ × ℕ) × List (ℕ × ℕ)) (o : Step states x end m state from most last) → o.to ≡ next → recorded_by (Some state) from.0 from.1 ≡ from.1
     → GoesWith x p from (o.position, from.1) → GoesOnWith states x end m next p from most last
 arrives_with states x end m next p state from most last o same silent goes = record {
@@ -79,14 +79,14 @@ arrives_with states x end m next p state from most last o same silent goes = rec
 }
 
 -- a way from a state, which ends at a place with these records
-pub record Rest (states : List State) (x : Subject) (end m s : ℕ) (from : Mark) (most : ℕ) (last : (ℕ × ℕ) × List (ℕ × ℕ)) : Type 0 where
+pub record Rest (states : List State) (x : Subject) (end m s : ℕ) (from : Point) (most : ℕ) (last : (ℕ × ℕ) × List (ℕ × ℕ)) : Type 0 where
   pub rest : List (ℕ × ℕ)
   pub way : IsWay states x end m (s, from.0) rest
   pub ends : finish states (s, from.0) rest from.1 ≡ last
   pub fewer : length rest + 1 ≡ most
 
 -- from a fork a way goes the one way or the other
-pub either_way : (states : List State) (x : Subject) (end m s a b : ℕ) (from : Mark) (rest : List (ℕ × ℕ)) → slice_get states s ≡ Some (Fork a b)
+pub either_way : (states : List State) (x : Subject) (end m s a b : ℕ) (from : Point) (rest : List (ℕ × ℕ)) → slice_get states s ≡ Some (Fork a b)
     → IsWay states x end m (s, from.0) rest
     → Rest states x end m a from (length rest) (finish states (s, from.0) rest from.1)
     ⊎ Rest states x end m b from (length rest) (finish states (s, from.0) rest from.1)

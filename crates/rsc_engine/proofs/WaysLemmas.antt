@@ -10,19 +10,19 @@ use Rattle.rsc_captures.specs.Captured.{Captured, span_at, first_slot, group_spa
 use Rattle.rsc_search.specs.declared.span.Span.{Span}
 use Rattle.rsc_engine.proofs.RefusalsLemmas.{pattern_there}
 use Rattle.rsc_engine.specs.Patterns.{Pattern, Empty, Never, Class, Literal, Assertion, Then, Either, Repeat, Group, Subject, Times, Goes}
-use Rattle.rsc_engine.specs.Ways.{Mark, last_in, with_record, TimesWith, GoesWith}
+use Rattle.rsc_engine.specs.Ways.{Point, last_in, with_record, TimesWith, GoesWith}
 use Rattle.rsc_engine.specs.GroupNumbers.{count_groups, numbered, as_whole, IsGroupOf}
 use Rattle.rsc_engine.proofs.GroupNumbersLemmas.{numbered-goes}
 
 -- ---- a way goes where the pattern goes
 
-times-goes : (R : Mark → Mark → Type 0) (S : ℕ → ℕ → Type 0) → ((m n : Mark) → R m n → S m.0 n.0) → (t : ℕ) (m n : Mark) → TimesWith R t m n
+times-goes : (R : Point → Point → Type 0) (S : ℕ → ℕ → Type 0) → ((m n : Point) → R m n → S m.0 n.0) → (t : ℕ) (m n : Point) → TimesWith R t m n
     → Times S t m.0 n.0
-times-goes R S goes zero m n g = ap (λ (k : Mark). k.0) g
+times-goes R S goes zero m n g = ap (λ (k : Point). k.0) g
 times-goes R S goes (suc t) m n g = (g.0.0, goes m g.0 g.1, times-goes R S goes t g.0 n g.2)
 
-pub with-goes : (x : Subject) (p : Pattern) (m n : Mark) → GoesWith x p m n → Goes x p m.0 n.0
-with-goes x Empty m n g = ap (λ (k : Mark). k.0) g
+pub with-goes : (x : Subject) (p : Pattern) (m n : Point) → GoesWith x p m n → Goes x p m.0 n.0
+with-goes x Empty m n g = ap (λ (k : Point). k.0) g
 with-goes x Never m n g = absurd g
 with-goes x (Class ranges) m n g = g.0
 with-goes x (Literal bytes) m n g = g.0
@@ -32,8 +32,8 @@ with-goes x (Either a b) m n g = ⊎_elim
     (λ (h : GoesWith x a m n). inl (with-goes x a m n h))
     (λ (h : GoesWith x b m n). inr (with-goes x b m n h))
     g
-with-goes x (Repeat min max often a) m n g = (g.0, g.1, g.2, times-goes (GoesWith x a) (Goes x a) (with-goes x a) g.0 m n g.3)
-with-goes x (Group slot a) m n g = subst (λ (k : Mark). Goes x a m.0 k.0) (sym g.2) (with-goes x a (with_record slot m) g.0 g.1)
+with-goes x (Repeat min max greedy a) m n g = (g.0, g.1, g.2, times-goes (GoesWith x a) (Goes x a) (with-goes x a) g.0 m n g.3)
+with-goes x (Group slot a) m n g = subst (λ (k : Point). Goes x a m.0 k.0) (sym g.2) (with-goes x a (with_record slot m) g.0 g.1)
 
 -- ---- what was recorded stays recorded
 
@@ -44,16 +44,16 @@ record-grows s i slot j r h = decide (nat_eq s slot) refl
     decide true e = (i, refl)
     decide false e = (j, h)
 
-times-grows : (R : Mark → Mark → Type 0) (slot : ℕ)
-    → ((m n : Mark) (i : ℕ) → R m n → last_in m.1 slot ≡ Some i → (j : ℕ) × (last_in n.1 slot ≡ Some j))
-    → (t : ℕ) (m n : Mark) (i : ℕ) → TimesWith R t m n → last_in m.1 slot ≡ Some i → (j : ℕ) × (last_in n.1 slot ≡ Some j)
-times-grows R slot grows zero m n i g h = (i, subst (λ (k : Mark). last_in k.1 slot ≡ Some i) g h)
+times-grows : (R : Point → Point → Type 0) (slot : ℕ)
+    → ((m n : Point) (i : ℕ) → R m n → last_in m.1 slot ≡ Some i → (j : ℕ) × (last_in n.1 slot ≡ Some j))
+    → (t : ℕ) (m n : Point) (i : ℕ) → TimesWith R t m n → last_in m.1 slot ≡ Some i → (j : ℕ) × (last_in n.1 slot ≡ Some j)
+times-grows R slot grows zero m n i g h = (i, subst (λ (k : Point). last_in k.1 slot ≡ Some i) g h)
 times-grows R slot grows (suc t) m n i g h =
     let first = grows m g.0 i g.1 h in times-grows R slot grows t g.0 n first.0 g.2 first.1
 
-pub stays_recorded : (x : Subject) (p : Pattern) (slot : ℕ) (m n : Mark) (i : ℕ) → GoesWith x p m n → last_in m.1 slot ≡ Some i
+pub stays_recorded : (x : Subject) (p : Pattern) (slot : ℕ) (m n : Point) (i : ℕ) → GoesWith x p m n → last_in m.1 slot ≡ Some i
     → (j : ℕ) × (last_in n.1 slot ≡ Some j)
-stays_recorded x Empty slot m n i g h = (i, subst (λ (k : Mark). last_in k.1 slot ≡ Some i) g h)
+stays_recorded x Empty slot m n i g h = (i, subst (λ (k : Point). last_in k.1 slot ≡ Some i) g h)
 stays_recorded x Never slot m n i g h = absurd g
 stays_recorded x (Class ranges) slot m n i g h = (i, subst (λ (r : List (ℕ × ℕ)). last_in r slot ≡ Some i) g.1 h)
 stays_recorded x (Literal bytes) slot m n i g h = (i, subst (λ (r : List (ℕ × ℕ)). last_in r slot ≡ Some i) g.1 h)
@@ -64,12 +64,12 @@ stays_recorded x (Either a b) slot m n i g h = ⊎_elim
     (λ (k : GoesWith x a m n). stays_recorded x a slot m n i k h)
     (λ (k : GoesWith x b m n). stays_recorded x b slot m n i k h)
     g
-stays_recorded x (Repeat min max often a) slot m n i g h = times-grows (GoesWith x a) slot (stays_recorded x a slot) g.0 m n i g.3 h
+stays_recorded x (Repeat min max greedy a) slot m n i g h = times-grows (GoesWith x a) slot (stays_recorded x a slot) g.0 m n i g.3 h
 stays_recorded x (Group s a) slot m n i g h =
     let first = record-grows s m.0 slot i m.1 h in
     let then = stays_recorded x a slot (with_record s m) g.0 first.0 g.1 first.1 in
     let last = record-grows (s + 1) g.0.0 slot then.0 g.0.1 then.1 in
-    (last.0, subst (λ (k : Mark). last_in k.1 slot ≡ Some last.0) (sym g.2) last.1)
+    (last.0, subst (λ (k : Point). last_in k.1 slot ≡ Some last.0) (sym g.2) last.1)
 
 -- ---- a record in a slot
 
@@ -84,22 +84,22 @@ abbrev pub AreApart : (ℕ → ℕ) → Type 0
 AreApart f = (g h : ℕ) → (g ≡ h → ⊥) → ((f g ≡ f h) → ⊥) × ((f g ≡ f h + 1) → ⊥)
 
 -- both slots of group h hold what they held
-abbrev Keeps : (ℕ → ℕ) → ℕ → Mark → Mark → Type 0
+abbrev Keeps : (ℕ → ℕ) → ℕ → Point → Point → Type 0
 Keeps f h m n = (last_in n.1 (f h) ≡ last_in m.1 (f h)) × (last_in n.1 (f h + 1) ≡ last_in m.1 (f h + 1))
 
-keeps-same : (f : ℕ → ℕ) (h : ℕ) (m n : Mark) → m.1 ≡ n.1 → Keeps f h m n
+keeps-same : (f : ℕ → ℕ) (h : ℕ) (m n : Point) → m.1 ≡ n.1 → Keeps f h m n
 keeps-same f h m n e = (ap (λ (r : List (ℕ × ℕ)). last_in r (f h)) (sym e), ap (λ (r : List (ℕ × ℕ)). last_in r (f h + 1)) (sym e))
 
-keeps-then : (f : ℕ → ℕ) (h : ℕ) (m k n : Mark) → Keeps f h m k → Keeps f h k n → Keeps f h m n
+keeps-then : (f : ℕ → ℕ) (h : ℕ) (m k n : Point) → Keeps f h m k → Keeps f h k n → Keeps f h m n
 keeps-then f h m k n a b = (b.0 ∙ a.0, b.1 ∙ a.1)
 
-keeps-start : (f : ℕ → ℕ) → AreApart f → (g h : ℕ) → (g ≡ h → ⊥) → (m : Mark) → Keeps f h m (with_record (f g) m)
+keeps-start : (f : ℕ → ℕ) → AreApart f → (g h : ℕ) → (g ≡ h → ⊥) → (m : Point) → Keeps f h m (with_record (f g) m)
 keeps-start f apart g h other m = (
   other_slot (f g) (f h) m.0 m.1 ((apart g h other).0),
   other_slot (f g) (f h + 1) m.0 m.1 ((apart g h other).1),
 )
 
-keeps-end : (f : ℕ → ℕ) → AreApart f → (g h : ℕ) → (g ≡ h → ⊥) → (m : Mark) → Keeps f h m (with_record (f g + 1) m)
+keeps-end : (f : ℕ → ℕ) → AreApart f → (g h : ℕ) → (g ≡ h → ⊥) → (m : Point) → Keeps f h m (with_record (f g + 1) m)
 keeps-end f apart g h other m = (
   other_slot (f g + 1) (f h) m.0 m.1 (λ e. (apart h g (λ s. other (sym s))).1 (sym e)),
   other_slot (f g + 1) (f h + 1) m.0 m.1 (λ e. (apart g h other).0 (omega (arith, e))),
@@ -107,16 +107,16 @@ keeps-end f apart g h other m = (
 
 -- ---- groups of other numbers
 
-times-slot : (s : ℕ) (R : Mark → Mark → Type 0) → ((m n : Mark) → R m n → last_in n.1 s ≡ last_in m.1 s) → (t : ℕ) (m n : Mark) → TimesWith R t m n
+times-slot : (s : ℕ) (R : Point → Point → Type 0) → ((m n : Point) → R m n → last_in n.1 s ≡ last_in m.1 s) → (t : ℕ) (m n : Point) → TimesWith R t m n
     → last_in n.1 s ≡ last_in m.1 s
-times-slot s R keeps zero m n g = ap (λ (k : Mark). last_in k.1 s) (sym g)
+times-slot s R keeps zero m n g = ap (λ (k : Point). last_in k.1 s) (sym g)
 times-slot s R keeps (suc t) m n g = times-slot s R keeps t g.0 n g.2 ∙ keeps m g.0 g.1
 
 -- a slot of none of the pattern's groups holds what it held
 keeps-slot : (f : ℕ → ℕ) (s : ℕ) (x : Subject) (p : Pattern) (n : ℕ)
-    → ((g : ℕ) → n ≤ g → g < n + count_groups p → ((f g ≡ s) → ⊥) × ((f g + 1 ≡ s) → ⊥)) → (m k : Mark) → GoesWith x (numbered f n p) m k
+    → ((g : ℕ) → n ≤ g → g < n + count_groups p → ((f g ≡ s) → ⊥) × ((f g + 1 ≡ s) → ⊥)) → (m k : Point) → GoesWith x (numbered f n p) m k
     → last_in k.1 s ≡ last_in m.1 s
-keeps-slot f s x Empty n off m k g = ap (λ (z : Mark). last_in z.1 s) (sym g)
+keeps-slot f s x Empty n off m k g = ap (λ (z : Point). last_in z.1 s) (sym g)
 keeps-slot f s x Never n off m k g = absurd g
 keeps-slot f s x (Class ranges) n off m k g = ap (λ (r : List (ℕ × ℕ)). last_in r s) (sym g.1)
 keeps-slot f s x (Literal bytes) n off m k g = ap (λ (r : List (ℕ × ℕ)). last_in r s) (sym g.1)
@@ -129,9 +129,9 @@ keeps-slot f s x (Either a b) n off m k g = ⊎_elim
     (λ (w : GoesWith x (numbered f (n + count_groups a) b) m k).
     keeps-slot f s x b (n + count_groups a) (λ h low high. off h (omega (arith, low)) (omega (arith, high))) m k w)
     g
-keeps-slot f s x (Repeat min max often a) n off m k g = times-slot s (GoesWith x (numbered f n a)) (keeps-slot f s x a n off) g.0 m k g.3
+keeps-slot f s x (Repeat min max greedy a) n off m k g = times-slot s (GoesWith x (numbered f n a)) (keeps-slot f s x a n off) g.0 m k g.3
 keeps-slot f s x (Group slot a) n off m k g =
-    subst (λ (z : Mark). last_in z.1 s ≡ last_in m.1 s) (sym g.2)
+    subst (λ (z : Point). last_in z.1 s ≡ last_in m.1 s) (sym g.2)
     (other_slot (f n + 1) s g.0.0 g.0.1 (off n (omega arith) (omega arith)).1
     ∙ (keeps-slot f s x a (n + 1) (λ h low high. off h (omega (arith, low)) (omega (arith, high))) (with_record (f n) m) g.0 g.1
     ∙ other_slot (f n) s m.0 m.1 (off n (omega arith) (omega arith)).0))
@@ -140,7 +140,7 @@ keeps-slot f s x (Group slot a) n off m k g =
 abbrev IsOutside : ℕ → ℕ → ℕ → Type 0
 IsOutside n count h = (h < n) ⊎ (n + count ≤ h)
 
-keeps-others : (f : ℕ → ℕ) → AreApart f → (x : Subject) (p : Pattern) (n h : ℕ) → IsOutside n (count_groups p) h → (m k : Mark)
+keeps-others : (f : ℕ → ℕ) → AreApart f → (x : Subject) (p : Pattern) (n h : ℕ) → IsOutside n (count_groups p) h → (m k : Point)
     → GoesWith x (numbered f n p) m k → Keeps f h m k
 keeps-others f apart x p n h out m k g = (
   keeps-slot f (f h) x p n (λ i low high. ((apart i h (other i low high)).0, λ e. (apart h i (λ s. other i low high (sym s))).1 (sym e))) m k g,
@@ -156,30 +156,30 @@ keeps-others f apart x p n h out m k g = (
 -- ---- a group of the pattern
 
 -- the slots of group h hold positions between which the part goes
-abbrev IsSetBy : Subject → (ℕ → ℕ) → ℕ → Pattern → Mark → Type 0
+abbrev IsSetBy : Subject → (ℕ → ℕ) → ℕ → Pattern → Point → Type 0
 IsSetBy x f h a n = (i : ℕ) × (j : ℕ) × (last_in n.1 (f h) ≡ Some i) × (last_in n.1 (f h + 1) ≡ Some j) × Goes x a i j
 
-set-kept : (x : Subject) (f : ℕ → ℕ) (h : ℕ) (a : Pattern) (m n : Mark) → IsSetBy x f h a m → Keeps f h m n → IsSetBy x f h a n
+set-kept : (x : Subject) (f : ℕ → ℕ) (h : ℕ) (a : Pattern) (m n : Point) → IsSetBy x f h a m → Keeps f h m n → IsSetBy x f h a n
 set-kept x f h a m n s k = (s.0, s.1, k.0 ∙ s.2, k.1 ∙ s.3, s.4)
 
-abbrev MaySet : Subject → (ℕ → ℕ) → ℕ → Pattern → Mark → Mark → Type 0
+abbrev MaySet : Subject → (ℕ → ℕ) → ℕ → Pattern → Point → Point → Type 0
 MaySet x f h a m n = Keeps f h m n ⊎ IsSetBy x f h a n
 
-may-before : (x : Subject) (f : ℕ → ℕ) (h : ℕ) (a : Pattern) (m k n : Mark) → Keeps f h m k → MaySet x f h a k n → MaySet x f h a m n
+may-before : (x : Subject) (f : ℕ → ℕ) (h : ℕ) (a : Pattern) (m k n : Point) → Keeps f h m k → MaySet x f h a k n → MaySet x f h a m n
 may-before x f h a m k n keeps s = ⊎_elim
     (λ (c : Keeps f h k n). inl (keeps-then f h m k n keeps c))
     (λ (c : IsSetBy x f h a n). inr c)
     s
 
-may-after : (x : Subject) (f : ℕ → ℕ) (h : ℕ) (a : Pattern) (m k n : Mark) → MaySet x f h a m k → Keeps f h k n → MaySet x f h a m n
+may-after : (x : Subject) (f : ℕ → ℕ) (h : ℕ) (a : Pattern) (m k n : Point) → MaySet x f h a m k → Keeps f h k n → MaySet x f h a m n
 may-after x f h a m k n s keeps = ⊎_elim
     (λ (c : Keeps f h m k). inl (keeps-then f h m k n c keeps))
     (λ (c : IsSetBy x f h a k). inr (set-kept x f h a k n c keeps))
     s
 
-may-times : (x : Subject) (f : ℕ → ℕ) (h : ℕ) (a : Pattern) (R : Mark → Mark → Type 0) → ((m n : Mark) → R m n → MaySet x f h a m n) → (t : ℕ) (m n : Mark)
+may-times : (x : Subject) (f : ℕ → ℕ) (h : ℕ) (a : Pattern) (R : Point → Point → Type 0) → ((m n : Point) → R m n → MaySet x f h a m n) → (t : ℕ) (m n : Point)
     → TimesWith R t m n → MaySet x f h a m n
-may-times x f h a R may zero m n g = inl (keeps-same f h m n (ap (λ (k : Mark). k.1) g))
+may-times x f h a R may zero m n g = inl (keeps-same f h m n (ap (λ (k : Point). k.1) g))
 may-times x f h a R may (suc t) m n g = ⊎_elim
     (λ (c : Keeps f h g.0 n). may-after x f h a m g.0 n (may m g.0 g.1) c)
     (λ (c : IsSetBy x f h a n). inr c)
@@ -199,11 +199,11 @@ group-within g a (Either b c) is = ⊎_elim
     (λ (i : IsGroupOf g a b). let l = group-within g a b i in omega (arith, l))
     (λ (i : (k : ℕ) × (g ≡ count_groups b + k) × IsGroupOf k a c). let l = group-within i.0 a c i.2 in omega (arith, l, i.1))
     is
-group-within g a (Repeat min max often b) is = group-within g a b is
+group-within g a (Repeat min max greedy b) is = group-within g a b is
 group-within zero a (Group slot b) is = omega arith
 group-within (suc g) a (Group slot b) is = let l = group-within g a b is in omega (arith, l)
 
-may-set : (f : ℕ → ℕ) → AreApart f → (x : Subject) (p a : Pattern) (n g h : ℕ) → h ≡ n + g → IsGroupOf g a p → (m k : Mark)
+may-set : (f : ℕ → ℕ) → AreApart f → (x : Subject) (p a : Pattern) (n g h : ℕ) → h ≡ n + g → IsGroupOf g a p → (m k : Point)
     → GoesWith x (numbered f n p) m k → MaySet x f h a m k
 may-set f apart x Empty a n g h e is m k w = absurd is
 may-set f apart x Never a n g h e is m k w = absurd is
@@ -232,7 +232,7 @@ may-set f apart x (Either b c) a n g h e is m k w = ⊎_elim
     may-set f apart x c a (n + count_groups b) i.0 h (omega (arith, e, i.1)) i.2 m k v)
     w)
     is
-may-set f apart x (Repeat min max often b) a n g h e is m k w =
+may-set f apart x (Repeat min max greedy b) a n g h e is m k w =
     may-times x f h a (GoesWith x (numbered f n b)) (may-set f apart x b a n g h e is) w.0 m k w.3
 may-set f apart x (Group slot b) a n zero h e is m k w =
     let same : n ≡ h = omega (arith, e) in
@@ -246,9 +246,9 @@ may-set f apart x (Group slot b) a n zero h e is m k w =
       same_slot (f n + 1) w.0.0 w.0.1,
       subst (λ (q : Pattern). Goes x q m.0 w.0.0) is goes,
     ) in
-    inr (subst (λ (l : ℕ). IsSetBy x f l a k) same (subst (λ (z : Mark). IsSetBy x f n a z) (sym w.2) set))
+    inr (subst (λ (l : ℕ). IsSetBy x f l a k) same (subst (λ (z : Point). IsSetBy x f n a z) (sym w.2) set))
 may-set f apart x (Group slot b) a n (suc g) h e is m k w =
-    subst (λ (z : Mark). MaySet x f h a m z) (sym w.2)
+    subst (λ (z : Point). MaySet x f h a m z) (sym w.2)
     (may-after x f h a m w.0 (with_record (f n + 1) w.0)
     (may-before x f h a m (with_record (f n) m) w.0 (keeps-start f apart n h other m)
     (may-set f apart x b a (n + 1) g h (omega (arith, e)) is (with_record (f n) m) w.0 w.1))
@@ -297,9 +297,9 @@ pub whole-records : (x : Subject) (lists : GroupLists) (m : ℕ) (p : Pattern) (
     → GoesWith x (as_whole lists m p) (start, []) (end, records) → (last_in records (2 * m) ≡ Some start) × (last_in records (2 * m + 1) ≡ Some end)
 whole-records x lists m p start end records there w =
     let keeps = keeps-others (slot_number lists m) (slots-apart lists m there) x p 1 0 (inl (omega arith)) (with_record (2 * m) (start, [])) w.0 w.1 in (
-      subst (λ (z : Mark). last_in z.1 (2 * m) ≡ Some start) (sym w.2)
+      subst (λ (z : Point). last_in z.1 (2 * m) ≡ Some start) (sym w.2)
           (other_slot (2 * m + 1) (2 * m) w.0.0 w.0.1 (λ e. absurd (omega (arith, e))) ∙ (keeps.0 ∙ same_slot (2 * m) start [])),
-      subst (λ (z : Mark). last_in z.1 (2 * m + 1) ≡ Some z.0) (sym w.2) (same_slot (2 * m + 1) w.0.0 w.0.1),
+      subst (λ (z : Point). last_in z.1 (2 * m + 1) ≡ Some z.0) (sym w.2) (same_slot (2 * m + 1) w.0.0 w.0.1),
     )
 
 -- and those of other whole patterns hold nothing

@@ -2,7 +2,7 @@
 use Rattle.std.proofs.Common.{◌≡◌, ℕ, zero, suc, ◌+◌, ◌-◌, inl, inr, ⊎_elim, Bool, true, false, ◌||◌, ◌&&◌, not, true≢false, List, [], ◌∷◌, refl, sym, ap, ◌∙◌, subst, arith, Option, Some, None}
 use Rattle.rsc_engine.specs.Patterns.{Pattern, Empty, Never, Class, Literal, Assertion, Then, Either, Repeat, Group, Subject, Times, SomeTimes, Goes, may_be_empty}
 use Rattle.rsc_engine.specs.FirstEnds.{loops_take_bytes, HasEndIn, limit_after}
-use Rattle.rsc_engine.specs.Ways.{Mark, with_record}
+use Rattle.rsc_engine.specs.Ways.{Point, with_record}
 use Rattle.rsc_engine.specs.FirstWays.{AreFirstRounds, IsFirstWay}
 use Rattle.rsc_engine.specs.LinksLayout.{copies, optional, up_to}
 use Rattle.rsc_engine.specs.Courses.{Course, Skip, Dead, Byte, Here, After, Choose, Turn, Again, Within, begin}
@@ -78,7 +78,7 @@ like-either p q r s a b = record {
   loops = and_true (loops_take_bytes p) (loops_take_bytes r) (loops_take_bytes q) (loops_take_bytes s) a.loops b.loops;
 }
 
-like-optional : (often : Bool) (p q : Pattern) → IsLike p q → IsLike (optional often p) (optional often q)
+like-optional : (greedy : Bool) (p q : Pattern) → IsLike p q → IsLike (optional greedy p) (optional greedy q)
 like-optional true p q a = like-either p q Empty Empty a (like-self Empty)
 like-optional false p q a = like-either Empty Empty p q (like-self Empty) a
 
@@ -91,10 +91,10 @@ times-along R S on (suc n) i j t = (t.0, on i t.0 t.1, times-along R S on n t.0 
 some-along : (R S : ℕ → ℕ → Type 0) → ((i j : ℕ) → R i j → S i j) → (min : ℕ) (max : Option ℕ) (i j : ℕ) → SomeTimes R min max i j → SomeTimes S min max i j
 some-along R S on min max i j t = (t.0, t.1, t.2, times-along R S on t.0 i j t.3)
 
-rounds-like : (x : Subject) (p q : Pattern) (often : Bool) → IsLike p q → (times min : ℕ) (max : Option ℕ) (Wanted : ℕ → Type 0) (m n : Mark)
-    → AreFirstRounds (λ Such k l. IsFirstWay x p Such k l) (Goes x p) often times min max Wanted m n
-    → AreFirstRounds (λ Such k l. IsFirstWay x q Such k l) (Goes x q) often times min max Wanted m n
-rounds-like x p q often a zero min max Wanted m n f = (
+rounds-like : (x : Subject) (p q : Pattern) (greedy : Bool) → IsLike p q → (times min : ℕ) (max : Option ℕ) (Wanted : ℕ → Type 0) (m n : Point)
+    → AreFirstRounds (λ Such k l. IsFirstWay x p Such k l) (Goes x p) greedy times min max Wanted m n
+    → AreFirstRounds (λ Such k l. IsFirstWay x q Such k l) (Goes x q) greedy times min max Wanted m n
+rounds-like x p q greedy a zero min max Wanted m n f = (
   f.0,
   f.1,
   f.2,
@@ -108,7 +108,7 @@ rounds-like x p q often a zero min max Wanted m n f = (
     ),
   ),
 )
-rounds-like x p q often a (suc times) min max Wanted m n f = (
+rounds-like x p q greedy a (suc times) min max Wanted m n f = (
   f.0,
   f.1,
   f.2,
@@ -118,27 +118,27 @@ rounds-like x p q often a (suc times) min max Wanted m n f = (
       (ends-along Wanted (SomeTimes (Goes x q) (min - 1) (limit_after max)) (SomeTimes (Goes x p) (min - 1) (limit_after max))
       (some-along (Goes x q) (Goes x p) (a.back x) (min - 1) (limit_after max)))
       (a.first x (HasEndIn Wanted (SomeTimes (Goes x p) (min - 1) (limit_after max))) m f.2 f.3),
-  rounds-like x p q often a times (min - 1) (limit_after max) Wanted f.2 n f.4,
+  rounds-like x p q greedy a times (min - 1) (limit_after max) Wanted f.2 n f.4,
 )
 
 not_false : (a c : Bool) → (c ≡ false → a ≡ false) → not c ≡ true → not a ≡ true
 not_false a true f e = absurd (true≢false (sym e))
 not_false a false f e = rw (f refl) refl
 
-like-repeat : (min : ℕ) (max : Option ℕ) (often : Bool) (p q : Pattern) → IsLike p q → IsLike (Repeat min max often p) (Repeat min max often q)
-like-repeat min max often p q a = record {
+like-repeat : (min : ℕ) (max : Option ℕ) (greedy : Bool) (p q : Pattern) → IsLike p q → IsLike (Repeat min max greedy p) (Repeat min max greedy q)
+like-repeat min max greedy p q a = record {
   to = λ x i j g. some-along (Goes x p) (Goes x q) (a.to x) min max i j g;
   back = λ x i j g. some-along (Goes x q) (Goes x p) (a.back x) min max i j g;
-  first = λ x Wanted m n f. (f.0, rounds-like x p q often a f.0 min max Wanted m n f.1);
+  first = λ x Wanted m n f. (f.0, rounds-like x p q greedy a f.0 min max Wanted m n f.1);
   takes = takes min;
   loops = loops max;
 }
   where
-    takes : (min : ℕ) → may_be_empty (Repeat min max often q) ≡ false → may_be_empty (Repeat min max often p) ≡ false
+    takes : (min : ℕ) → may_be_empty (Repeat min max greedy q) ≡ false → may_be_empty (Repeat min max greedy p) ≡ false
     takes zero e = absurd (true≢false e)
     takes (suc min) e = a.takes e
 
-    loops : (max : Option ℕ) → loops_take_bytes (Repeat min max often q) ≡ true → loops_take_bytes (Repeat min max often p) ≡ true
+    loops : (max : Option ℕ) → loops_take_bytes (Repeat min max greedy q) ≡ true → loops_take_bytes (Repeat min max greedy p) ≡ true
     loops None e = and_true (not (may_be_empty p)) (loops_take_bytes p) (not (may_be_empty q)) (loops_take_bytes q)
         (not_false (may_be_empty p) (may_be_empty q) a.takes) a.loops e
     loops (Some most) e = a.loops e
@@ -192,37 +192,37 @@ like-copies Is p like (suc n) c h =
     like-form c (After h.0 h.1) (copies (suc n) p) h.2
     (like-then (written h.0) p (written h.1) (copies n p) (like h.0 h.3) (like-copies Is p like n h.1 h.4))
 
-like-may : (often : Bool) (w : ℕ) (d : Course) (p : Pattern) → IsLike (written d) p → IsLike (written (may_come often w d)) (optional often p)
+like-may : (greedy : Bool) (w : ℕ) (d : Course) (p : Pattern) → IsLike (written d) p → IsLike (written (may_come greedy w d)) (optional greedy p)
 like-may true w d p a = like-optional true (written d) p a
 like-may false w d p a = like-optional false (written d) p a
 
-like-most : (Is : Course → Type 0) (p : Pattern) → AreLike Is p → (often : Bool) (n : ℕ) → AreLike (AreAtMost Is often n) (up_to often n p)
-like-most Is p like often zero c h = like-form c Skip Empty h (like-self Empty)
-like-most Is p like often (suc n) c h =
-    like-form c (may_come often h.0 (After h.1 h.2)) (up_to often (suc n) p) h.3
-    (like-may often h.0 (After h.1 h.2) (Then p (up_to often n p))
-    (like-then (written h.1) p (written h.2) (up_to often n p) (like h.1 h.4) (like-most Is p like often n h.2 h.5)))
+like-most : (Is : Course → Type 0) (p : Pattern) → AreLike Is p → (greedy : Bool) (n : ℕ) → AreLike (AreAtMost Is greedy n) (up_to greedy n p)
+like-most Is p like greedy zero c h = like-form c Skip Empty h (like-self Empty)
+like-most Is p like greedy (suc n) c h =
+    like-form c (may_come greedy h.0 (After h.1 h.2)) (up_to greedy (suc n) p) h.3
+    (like-may greedy h.0 (After h.1 h.2) (Then p (up_to greedy n p))
+    (like-then (written h.1) p (written h.2) (up_to greedy n p) (like h.1 h.4) (like-most Is p like greedy n h.2 h.5)))
 
-up_to-like : (often : Bool) (n : ℕ) (p : Pattern) → IsLike (up_to often n p) (Repeat 0 (Some n) often p)
-up_to-like often n p = record {
-  to = up_to-is often n p;
-  back = up_to-back often n p;
-  first = up_to-way often n p;
+up_to-like : (greedy : Bool) (n : ℕ) (p : Pattern) → IsLike (up_to greedy n p) (Repeat 0 (Some n) greedy p)
+up_to-like greedy n p = record {
+  to = up_to-is greedy n p;
+  back = up_to-back greedy n p;
+  first = up_to-way greedy n p;
   takes = λ e. absurd (true≢false e);
-  loops = up_to-loops often n p;
+  loops = up_to-loops greedy n p;
 }
 
-counted-like : (k l : ℕ) (max : Option ℕ) (often : Bool) (p : Pattern)
-    → IsLike (Then (copies k p) (Repeat l (limit_less max k) often p)) (Repeat (k + l) max often p)
-counted-like k l max often p = record {
-  to = counted-is k l max often p;
-  back = counted-back k l max often p;
-  first = counted-way k l max often p;
+counted-like : (k l : ℕ) (max : Option ℕ) (greedy : Bool) (p : Pattern)
+    → IsLike (Then (copies k p) (Repeat l (limit_less max k) greedy p)) (Repeat (k + l) max greedy p)
+counted-like k l max greedy p = record {
+  to = counted-is k l max greedy p;
+  back = counted-back k l max greedy p;
+  first = counted-way k l max greedy p;
   takes = takes k l;
-  loops = counted-loops k l max often p;
+  loops = counted-loops k l max greedy p;
 }
   where
-    takes : (k l : ℕ) → may_be_empty (Repeat (k + l) max often p) ≡ false → may_be_empty (Then (copies k p) (Repeat l (limit_less max k) often p)) ≡ false
+    takes : (k l : ℕ) → may_be_empty (Repeat (k + l) max greedy p) ≡ false → may_be_empty (Then (copies k p) (Repeat l (limit_less max k) greedy p)) ≡ false
     takes zero zero e = absurd (true≢false e)
     takes zero (suc l) e = let same : zero + suc l ≡ suc l = omega arith in rw same at e
     takes (suc k) l e =
@@ -230,14 +230,15 @@ counted-like k l max often p = record {
         let part : may_be_empty p ≡ false = rw same at e in
         rw part refl
 
-like-again : (Is : Course → Type 0) (p : Pattern) → AreLike Is p → (often : Bool) → AreLike (IsAgain Is often) (Repeat 1 None often p)
-like-again Is p like often c h =
-    like-form c (Again h.0 often h.1) (Repeat 1 None often p) h.2 (like-repeat 1 None often (written h.1) p (like h.1 h.3))
+like-again : (Is : Course → Type 0) (p : Pattern) → AreLike Is p → (greedy : Bool) → AreLike (IsAgain Is greedy) (Repeat 1 None greedy p)
+like-again Is p like greedy c h =
+    like-form c (Again h.0 greedy h.1) (Repeat 1 None greedy p) h.2 (like-repeat 1 None greedy (written h.1) p (like h.1 h.3))
 
-like-star : (Is : Course → Type 0) (p : Pattern) → AreLike Is p → (often empty : Bool) → empty ≡ false → AreLike (IsStar Is empty often) (Repeat 0 None often p)
-like-star Is p like often true e c h = absurd (true≢false e)
-like-star Is p like often false e c h =
-    like-form c (Turn h.0 often h.1) (Repeat 0 None often p) h.2 (like-repeat 0 None often (written h.1) p (like h.1 h.3))
+like-star : (Is : Course → Type 0) (p : Pattern) → AreLike Is p → (greedy empty : Bool) → empty ≡ false
+    → AreLike (IsStar Is empty greedy) (Repeat 0 None greedy p)
+like-star Is p like greedy true e c h = absurd (true≢false e)
+like-star Is p like greedy false e c h =
+    like-form c (Turn h.0 greedy h.1) (Repeat 0 None greedy p) h.2 (like-repeat 0 None greedy (written h.1) p (like h.1 h.3))
 
 one_more : (n : ℕ) → suc n + 1 ≡ suc (suc n)
 one_more n = omega arith
@@ -259,35 +260,37 @@ like-course (Either a b) l c h =
     let loops = both_are (loops_take_bytes a) (loops_take_bytes b) l in
     like-form c (Choose h.0 h.1 h.2) (Either a b) h.3
     (like-either (written h.1) a (written h.2) b (like-course a loops.0 h.1 h.4) (like-course b loops.1 h.2 h.5))
-like-course (Repeat zero None often a) l c h =
-    like-star (IsCourseOf a) a (like-course a (part-loops 0 None often a l)) often (may_be_empty a) (loop-takes 0 often a l) c h
-like-course (Repeat zero (Some max) often a) l c h =
-    like-on (written c) (up_to often max a) (Repeat 0 (Some max) often a) (like-most (IsCourseOf a) a (like-course a l) often max c h) (up_to-like often max a)
-like-course (Repeat (suc zero) None often a) l c h = like-again (IsCourseOf a) a (like-course a (part-loops 1 None often a l)) often c h
-like-course (Repeat (suc (suc min)) None often a) l c h =
-    let part = like-course a (part-loops (suc (suc min)) None often a l) in
-    like-form c (After h.0 h.1) (Repeat (suc (suc min)) None often a) h.2
-    (subst (λ (n : ℕ). IsLike (Then (written h.0) (written h.1)) (Repeat n None often a)) (one_more min)
-    (like-on (Then (written h.0) (written h.1)) (Then (copies (suc min) a) (Repeat 1 None often a)) (Repeat (suc min + 1) None often a)
-    (like-then (written h.0) (copies (suc min) a) (written h.1) (Repeat 1 None often a) (like-copies (IsCourseOf a) a part (suc min) h.0 h.3)
-    (like-again (IsCourseOf a) a part often h.1 h.4))
-    (counted-like (suc min) 1 None often a)))
-like-course (Repeat (suc min) (Some max) often a) l c h =
-    like-form c (After h.0 h.1) (Repeat (suc min) (Some max) often a) h.2
-    (subst (λ (n : ℕ). IsLike (Then (written h.0) (written h.1)) (Repeat n (Some max) often a)) (none_more min)
-    (like-on (Then (written h.0) (written h.1)) (Then (copies (suc min) a) (Repeat 0 (Some (max - suc min)) often a)) (Repeat (suc min + 0) (Some max) often a)
-    (like-then (written h.0) (copies (suc min) a) (written h.1) (Repeat 0 (Some (max - suc min)) often a)
+like-course (Repeat zero None greedy a) l c h =
+    like-star (IsCourseOf a) a (like-course a (part-loops 0 None greedy a l)) greedy (may_be_empty a) (loop-takes 0 greedy a l) c h
+like-course (Repeat zero (Some max) greedy a) l c h =
+    like-on (written c) (up_to greedy max a) (Repeat 0 (Some max) greedy a) (like-most (IsCourseOf a) a (like-course a l) greedy max c h)
+    (up_to-like greedy max a)
+like-course (Repeat (suc zero) None greedy a) l c h = like-again (IsCourseOf a) a (like-course a (part-loops 1 None greedy a l)) greedy c h
+like-course (Repeat (suc (suc min)) None greedy a) l c h =
+    let part = like-course a (part-loops (suc (suc min)) None greedy a l) in
+    like-form c (After h.0 h.1) (Repeat (suc (suc min)) None greedy a) h.2
+    (subst (λ (n : ℕ). IsLike (Then (written h.0) (written h.1)) (Repeat n None greedy a)) (one_more min)
+    (like-on (Then (written h.0) (written h.1)) (Then (copies (suc min) a) (Repeat 1 None greedy a)) (Repeat (suc min + 1) None greedy a)
+    (like-then (written h.0) (copies (suc min) a) (written h.1) (Repeat 1 None greedy a) (like-copies (IsCourseOf a) a part (suc min) h.0 h.3)
+    (like-again (IsCourseOf a) a part greedy h.1 h.4))
+    (counted-like (suc min) 1 None greedy a)))
+like-course (Repeat (suc min) (Some max) greedy a) l c h =
+    like-form c (After h.0 h.1) (Repeat (suc min) (Some max) greedy a) h.2
+    (subst (λ (n : ℕ). IsLike (Then (written h.0) (written h.1)) (Repeat n (Some max) greedy a)) (none_more min)
+    (like-on (Then (written h.0) (written h.1)) (Then (copies (suc min) a) (Repeat 0 (Some (max - suc min)) greedy a))
+    (Repeat (suc min + 0) (Some max) greedy a)
+    (like-then (written h.0) (copies (suc min) a) (written h.1) (Repeat 0 (Some (max - suc min)) greedy a)
     (like-copies (IsCourseOf a) a (like-course a l) (suc min) h.0 h.3)
-    (like-on (written h.1) (up_to often (max - suc min) a) (Repeat 0 (Some (max - suc min)) often a)
-    (like-most (IsCourseOf a) a (like-course a l) often (max - suc min) h.1 h.4) (up_to-like often (max - suc min) a)))
-    (counted-like (suc min) 0 (Some max) often a)))
+    (like-on (written h.1) (up_to greedy (max - suc min) a) (Repeat 0 (Some (max - suc min)) greedy a)
+    (like-most (IsCourseOf a) a (like-course a l) greedy (max - suc min) h.1 h.4) (up_to-like greedy (max - suc min) a)))
+    (counted-like (suc min) 0 (Some max) greedy a)))
 like-course (Group slot a) l c h =
     like-form c (Within slot h.0) (Group slot a) h.1 (like-group slot (written h.0) a (like-course a l h.0 h.2))
 
 pub preferred-first : (x : Subject) (p : Pattern) (Wanted : ℕ → Type 0) (i j : ℕ) (records : List (ℕ × ℕ)) → loops_take_bytes p ≡ true
     → IsPreferredWay x p Wanted i j records → IsFirstWay x p Wanted (i, []) (j, records)
 preferred-first x p Wanted i j records l f =
-    subst (λ (m : Mark). IsFirstWay x p Wanted (i, []) m) (ap (λ (k : ℕ). (k, f.1.records)) f.3 ∙ ap (λ (r : List (ℕ × ℕ)). (j, r)) f.4)
+    subst (λ (m : Point). IsFirstWay x p Wanted (i, []) m) (ap (λ (k : ℕ). (k, f.1.records)) f.3 ∙ ap (λ (r : List (ℕ × ℕ)). (j, r)) f.4)
     (like.first x Wanted (i, []) (f.1.at, f.1.records)
     (plain x f.0.course (like.loops l) (apart-of f.0.course f.0.apart) (λ s. Wanted s.at) Wanted (begin i) f.1 (λ v m c. absurd (omega (arith, c.1)))
     (λ u m. (λ w. w, λ w. w)) f.2))

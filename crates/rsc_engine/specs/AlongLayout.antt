@@ -48,7 +48,7 @@ LeadsAlong e from i t (Some p) slots = IsRecorded e from p i slots
 abbrev pub AreBelow : ℕ → List ℕ → Type 0
 AreBelow n seen = (s : ℕ) → slice_index_or seen s 0 < n
 
--- in place of the state at the position the other may be gone on from, once the one was seen: what is best from there is so behind it
+-- once the one state was seen at the position, the other may be gone on from instead: what is best from there is so behind it
 pub record IsInPlace (e : Search) (i s t : ℕ) : Type 0 where
   pub best : (seen after : ℕ → Bool) → IsMore seen s after → seen s ≡ false → (run : List (ℕ × ℕ)) → IsBest e i after t run
       → IsBest e i seen s ((s, i) ∷ run)

@@ -6,7 +6,7 @@ use Rattle.rsc_engine.specs.Patterns.{Pattern, Subject, Goes}
 use Rattle.rsc_engine.specs.EnclosesLayout.{Encloses}
 use Rattle.rsc_engine.specs.LinksLayout.{Aim, Ends, HasEnd}
 use Rattle.rsc_engine.specs.StepsLayout.{AreSteps, last_place}
-use Rattle.rsc_engine.specs.WaysLayout.{IsBefore}
+use Rattle.rsc_engine.specs.WaysLayout.{StepsBefore}
 
 -- the states of a pattern: the accepting one, a record of where the match ends, a part, and a record of where the match begins
 pub record IsWhole (states : List State) (number low high accept after body first : ℕ) : Type 0 where
@@ -19,7 +19,7 @@ pub record IsWhole (states : List State) (number low high accept after body firs
 pub record PrefersFrom (states : List State) (first : ℕ) : Type 0 where
   pub before : (x : Subject) (end m n : ℕ) (p : ℕ × ℕ) (one other : List (ℕ × ℕ)) → p.0 ≡ first → p.1 ≤ end →
       AreSteps states x end p one → AreSteps states x end p other → slice_get states (last_place p one).0 ≡ Some (Accept m) →
-      slice_get states (last_place p other).0 ≡ Some (Accept n) → m < n → IsBefore states p one other
+      slice_get states (last_place p other).0 ≡ Some (Accept n) → m < n → StepsBefore states p one other
 
 -- from the state `first` exactly the matches that are looked for are found, and lesser patterns are preferred
 pub record Begins (states : List State) (first : ℕ) (IsSought : Aim → ℕ → Type 0) : Type 0 where

@@ -18,9 +18,9 @@ pub data Course : Type 0 where
   Here : Look → Course
   -- the one, then the other
   After : Course → Course → Course
-  -- a choice: the one or the other, preferably the first
+  -- a choice: the one or the other; the first is preferred
   Choose : ℕ → Course → Course → Course
-  -- any number of rounds; before each one, and after the last, the choice to come again, preferably or not
+  -- any number of rounds, greedy or lazy; before each one, and after the last, the choice to come again
   Turn : ℕ → Bool → Course → Course
   -- a round, then any number
   Again : ℕ → Bool → Course → Course
@@ -70,8 +70,8 @@ GoesNew x (Byte a b) s t = IsTrue (is_between a b (slice_get x.haystack s.at)) �
 GoesNew x (Here look) s t = Holds look x.terminator x.word_chars x.haystack s.at × (s ≡ t)
 GoesNew x (After c d) s t = (k : Stand) × GoesNew x c s k × GoesNew x d k t
 GoesNew x (Choose w c d) s t = IsNew w s × (GoesNew x c (chosen w s) t ⊎ GoesNew x d (chosen w s) t)
-GoesNew x (Turn w often c) s t = SomeTurns (GoesNew x c) w s t
-GoesNew x (Again w often c) s t = (k : Stand) × GoesNew x c s k × SomeTurns (GoesNew x c) w k t
+GoesNew x (Turn w greedy c) s t = SomeTurns (GoesNew x c) w s t
+GoesNew x (Again w greedy c) s t = (k : Stand) × GoesNew x c s k × SomeTurns (GoesNew x c) w k t
 GoesNew x (Within slot c) s t = (k : Stand) × GoesNew x c (noted slot s) k × (t ≡ noted (slot + 1) k)
 
 -- it goes to where something is wanted
@@ -80,11 +80,11 @@ Reaches Wanted R s = (t : Stand) × R s t × Wanted t
 
 -- n rounds, each the first from which the rest leads to where something is wanted: as often as that leads there, or as seldom
 abbrev pub FirstTurns : ((Stand → Type 0) → Stand → Stand → Type 0) → (Stand → Stand → Type 0) → ℕ → Bool → ℕ → (Stand → Type 0) → Stand → Stand → Type 0
-FirstTurns First R w often zero Wanted s t =
-    IsNew w s × (t ≡ chosen w s) × Wanted t × (often ≡ true → ¬ (Reaches (Reaches Wanted (SomeTurns R w)) R (chosen w s)))
-FirstTurns First R w often (suc n) Wanted s t =
-    IsNew w s × (often ≡ false → ¬ (Wanted (chosen w s)))
-    × (k : Stand) × First (Reaches Wanted (SomeTurns R w)) (chosen w s) k × FirstTurns First R w often n Wanted k t
+FirstTurns First R w greedy zero Wanted s t =
+    IsNew w s × (t ≡ chosen w s) × Wanted t × (greedy ≡ true → ¬ (Reaches (Reaches Wanted (SomeTurns R w)) R (chosen w s)))
+FirstTurns First R w greedy (suc n) Wanted s t =
+    IsNew w s × (greedy ≡ false → ¬ (Wanted (chosen w s)))
+    × (k : Stand) × First (Reaches Wanted (SomeTurns R w)) (chosen w s) k × FirstTurns First R w greedy n Wanted k t
 
 -- of the ways of the course to where something is wanted, which make no choice twice at one position, the first goes from the one to the other
 abbrev pub IsFirstNew : Subject → Course → (Stand → Type 0) → Stand → Stand → Type 0
@@ -95,10 +95,10 @@ IsFirstNew x (Here look) Wanted s t = GoesNew x (Here look) s t × Wanted t
 IsFirstNew x (After c d) Wanted s t = (k : Stand) × IsFirstNew x c (Reaches Wanted (GoesNew x d)) s k × IsFirstNew x d Wanted k t
 IsFirstNew x (Choose w c d) Wanted s t =
     IsNew w s × (IsFirstNew x c Wanted (chosen w s) t ⊎ ((¬ (Reaches Wanted (GoesNew x c) (chosen w s))) × IsFirstNew x d Wanted (chosen w s) t))
-IsFirstNew x (Turn w often c) Wanted s t =
-    (n : ℕ) × FirstTurns (λ Such k l. IsFirstNew x c Such k l) (GoesNew x c) w often n Wanted s t
-IsFirstNew x (Again w often c) Wanted s t =
+IsFirstNew x (Turn w greedy c) Wanted s t =
+    (n : ℕ) × FirstTurns (λ Such k l. IsFirstNew x c Such k l) (GoesNew x c) w greedy n Wanted s t
+IsFirstNew x (Again w greedy c) Wanted s t =
     (k : Stand) × IsFirstNew x c (Reaches Wanted (SomeTurns (GoesNew x c) w)) s k
-    × (n : ℕ) × FirstTurns (λ Such l m. IsFirstNew x c Such l m) (GoesNew x c) w often n Wanted k t
+    × (n : ℕ) × FirstTurns (λ Such l m. IsFirstNew x c Such l m) (GoesNew x c) w greedy n Wanted k t
 IsFirstNew x (Within slot c) Wanted s t =
     (k : Stand) × IsFirstNew x c (λ l. Wanted (noted (slot + 1) l)) (noted slot s) k × (t ≡ noted (slot + 1) k)

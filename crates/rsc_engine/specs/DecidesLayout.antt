@@ -14,19 +14,19 @@ abbrev pub Avoids : ℕ → (ℕ → Bool) → List (ℕ × ℕ) → Type 0
 Avoids i seen run = (k : ℕ) → k < length run → (place run k).1 ≡ i → seen (place run k).0 ≡ false
 
 -- a run to a match from the state at the position, which avoids the states seen there
-pub record IsOpenMatch (e : Search) (i : ℕ) (seen : ℕ → Bool) (s : ℕ) (run : List (ℕ × ℕ)) : Type 0 where
+pub record IsUnseenMatch (e : Search) (i : ℕ) (seen : ℕ → Bool) (s : ℕ) (run : List (ℕ × ℕ)) : Type 0 where
   pub is_match : IsMatchRun e (s, i) run
   pub avoids : Avoids i seen run
 
 -- there is none
 abbrev pub IsHopeless : Search → ℕ → (ℕ → Bool) → ℕ → Type 0
-IsHopeless e i seen s = (run : List (ℕ × ℕ)) → ¬ (IsOpenMatch e i seen s run)
+IsHopeless e i seen s = (run : List (ℕ × ℕ)) → ¬ (IsUnseenMatch e i seen s run)
 
 -- no other is preferred to it, among such runs which come to no place twice
 pub record IsBest (e : Search) (i : ℕ) (seen : ℕ → Bool) (s : ℕ) (run : List (ℕ × ℕ)) : Type 0 where
-  pub is_open : IsOpenMatch e i seen s run
+  pub is_unseen : IsUnseenMatch e i seen s run
   pub once : IsOnce run
-  pub first : (other : List (ℕ × ℕ)) → IsOpenMatch e i seen s other → IsOnce other → ¬ (IsPreferredTo e other run)
+  pub first : (other : List (ℕ × ℕ)) → IsUnseenMatch e i seen s other → IsOnce other → ¬ (IsPreferredTo e other run)
 
 -- nothing was seen
 abbrev pub unseen : ℕ → Bool

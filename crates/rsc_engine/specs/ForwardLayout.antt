@@ -60,9 +60,9 @@ pub record IsGoing (e : Search) (k : ℕ) (begins : Bool) (last : Option (ℕ ×
 -- ---- rows
 
 -- the pattern of the match that a row knows of
-abbrev pub pattern_in : Option PassRow → Option ℕ
-pattern_in None = None
-pattern_in (Some row) = row.found
+abbrev pub found_in : Option PassRow → Option ℕ
+found_in None = None
+found_in (Some row) = row.found
 
 -- the row is that of the position, if this is the last match found before it
 pub record StandsForward (e : Search) (classes : List ℕ) (rows : List PassRow) (k i : ℕ) (last : Option (ℕ × ℕ)) : Type 0 where
@@ -74,17 +74,17 @@ pub record StandsForward (e : Search) (classes : List ℕ) (rows : List PassRow)
   pub going : IsGoing e i row.begins last row.list.items
 
 -- the search up to another end of the span
-abbrev pub up_to : Search → ℕ → Search
-up_to e t = record e { end = t }
+abbrev pub search_up_to : Search → ℕ → Search
+search_up_to e t = record e { end = t }
 
 -- it is so in the search up to each end that the pass hasn't gone past by more than one
 abbrev pub StandsInEach : Search → List ℕ → List PassRow → ℕ → ℕ → Option (ℕ × ℕ) → Type 0
-StandsInEach e classes rows k i last = (t : ℕ) → i ≤ t + 1 → t ≤ e.end → StandsForward (up_to e t) classes rows k i last
+StandsInEach e classes rows k i last = (t : ℕ) → i ≤ t + 1 → t ≤ e.end → StandsForward (search_up_to e t) classes rows k i last
 
 -- from where a pass stands at the position, the row that is next is that of the next one
 abbrev pub GoesForward : Search → List ℕ → List PassRow → List PassRow → ℕ → ℕ → ℕ → Type 0
 GoesForward e classes old new k i next = (last : Option (ℕ × ℕ)) → StandsForward e classes old k i last
-    → StandsForward e classes new next (i + 1) (last_with (pattern_in (slice_get new next)) i last)
+    → StandsForward e classes new next (i + 1) (last_with (found_in (slice_get new next)) i last)
 
 abbrev pub GoesInEach : Search → List ℕ → List PassRow → List PassRow → ℕ → ℕ → ℕ → Type 0
-GoesInEach e classes old new k i next = (t : ℕ) → i ≤ t → t ≤ e.end → GoesForward (up_to e t) classes old new k i next
+GoesInEach e classes old new k i next = (t : ℕ) → i ≤ t → t ≤ e.end → GoesForward (search_up_to e t) classes old new k i next

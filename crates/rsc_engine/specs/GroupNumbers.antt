@@ -12,7 +12,7 @@ count_groups (Literal bytes) = 0
 count_groups (Assertion look) = 0
 count_groups (Then a b) = count_groups a + count_groups b
 count_groups (Either a b) = count_groups a + count_groups b
-count_groups (Repeat min max often a) = count_groups a
+count_groups (Repeat min max greedy a) = count_groups a
 count_groups (Group slot a) = 1 + count_groups a
 
 -- the part of the group with that number, where a pattern's groups are numbered from 0 in the order in which they open
@@ -24,7 +24,7 @@ IsGroupOf g part (Literal bytes) = ⊥
 IsGroupOf g part (Assertion look) = ⊥
 IsGroupOf g part (Then a b) = IsGroupOf g part a ⊎ ((h : ℕ) × (g ≡ count_groups a + h) × IsGroupOf h part b)
 IsGroupOf g part (Either a b) = IsGroupOf g part a ⊎ ((h : ℕ) × (g ≡ count_groups a + h) × IsGroupOf h part b)
-IsGroupOf g part (Repeat min max often a) = IsGroupOf g part a
+IsGroupOf g part (Repeat min max greedy a) = IsGroupOf g part a
 IsGroupOf zero part (Group slot a) = a ≡ part
 IsGroupOf (suc g) part (Group slot a) = IsGroupOf g part a
 
@@ -37,7 +37,7 @@ numbered slot_of n (Literal bytes) = Literal bytes
 numbered slot_of n (Assertion look) = Assertion look
 numbered slot_of n (Then a b) = Then (numbered slot_of n a) (numbered slot_of (n + count_groups a) b)
 numbered slot_of n (Either a b) = Either (numbered slot_of n a) (numbered slot_of (n + count_groups a) b)
-numbered slot_of n (Repeat min max often a) = Repeat min max often (numbered slot_of n a)
+numbered slot_of n (Repeat min max greedy a) = Repeat min max greedy (numbered slot_of n a)
 numbered slot_of n (Group slot a) = Group (slot_of n) (numbered slot_of (n + 1) a)
 
 -- pattern m of the lists, with the slots of its groups, as its group 0: the whole match

@@ -13,8 +13,8 @@ Makes (Byte a b) v = ⊥
 Makes (Here look) v = ⊥
 Makes (After c d) v = Makes c v ⊎ Makes d v
 Makes (Choose w c d) v = (w ≡ v) ⊎ (Makes c v ⊎ Makes d v)
-Makes (Turn w often c) v = (w ≡ v) ⊎ Makes c v
-Makes (Again w often c) v = (w ≡ v) ⊎ Makes c v
+Makes (Turn w greedy c) v = (w ≡ v) ⊎ Makes c v
+Makes (Again w greedy c) v = (w ≡ v) ⊎ Makes c v
 Makes (Within slot c) v = Makes c v
 
 -- the course may make the choice before a byte, if its rounds take bytes
@@ -25,8 +25,8 @@ MakesFirst (Byte a b) v = ⊥
 MakesFirst (Here look) v = ⊥
 MakesFirst (After c d) v = MakesFirst c v ⊎ ((may_be_empty (written c) ≡ true) × MakesFirst d v)
 MakesFirst (Choose w c d) v = (w ≡ v) ⊎ (MakesFirst c v ⊎ MakesFirst d v)
-MakesFirst (Turn w often c) v = (w ≡ v) ⊎ MakesFirst c v
-MakesFirst (Again w often c) v = MakesFirst c v
+MakesFirst (Turn w greedy c) v = (w ≡ v) ⊎ MakesFirst c v
+MakesFirst (Again w greedy c) v = MakesFirst c v
 MakesFirst (Within slot c) v = MakesFirst c v
 
 -- no choice is at two places of the course
@@ -37,13 +37,13 @@ AreApart (Byte a b) = Unit {0}
 AreApart (Here look) = Unit {0}
 AreApart (After c d) = AreApart c × AreApart d × ((v : ℕ) → Makes c v → Makes d v → ⊥)
 AreApart (Choose w c d) = AreApart c × AreApart d × ((v : ℕ) → Makes c v → Makes d v → ⊥) × ¬ (Makes c w) × (¬ (Makes d w))
-AreApart (Turn w often c) = AreApart c × (¬ (Makes c w))
-AreApart (Again w often c) = AreApart c × (¬ (Makes c w))
+AreApart (Turn w greedy c) = AreApart c × (¬ (Makes c w))
+AreApart (Again w greedy c) = AreApart c × (¬ (Makes c w))
 AreApart (Within slot c) = AreApart c
 
 -- none of the choices that the course may make first was made
-abbrev pub IsOpenTo : Course → Stand → Type 0
-IsOpenTo c s = (v : ℕ) → MakesFirst c v → ¬ (Contains s.made v)
+abbrev pub AreNew : Course → Stand → Type 0
+AreNew c s = (v : ℕ) → MakesFirst c v → ¬ (Contains s.made v)
 
 -- after the course from the one to the other: which choices were made since the last byte
 pub record Leaves (c : Course) (s t : Stand) : Type 0 where
@@ -51,5 +51,5 @@ pub record Leaves (c : Course) (s t : Stand) : Type 0 where
   pub fresh : may_be_empty (written c) ≡ false → (v : ℕ) → Contains t.made v → ¬ (MakesFirst c v)
 
 -- before a round's choice: of the choices made since the last byte, which are some given ones, none is that one, or may come first in a round
-abbrev pub IsBefore : ℕ → Course → (ℕ → Type 0) → Stand → Type 0
-IsBefore w c Given s = (v : ℕ) → Contains s.made v → Given v × (¬ (w ≡ v)) × (¬ (MakesFirst c v))
+abbrev pub IsFreshBefore : ℕ → Course → (ℕ → Type 0) → Stand → Type 0
+IsFreshBefore w c Given s = (v : ℕ) → Contains s.made v → Given v × (¬ (w ≡ v)) × (¬ (MakesFirst c v))

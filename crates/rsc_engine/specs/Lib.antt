@@ -1,6 +1,7 @@
 pub mod AheadLayout  -- where matches begin ahead
 pub mod AlongLayout  -- the pass along the log of the backward pass
 pub mod ArrivalsLayout  -- from where a match is reached
+pub mod Asks  -- which assertions a pattern has, in parts that may be there
 pub mod BackwardLayout  -- the backward pass: from the end of a span back to where a match begins in it
 pub mod BeginsLayout  -- at which state the matches of a pattern, or of several, begin
 pub mod ByWaysLayout  -- by which ways of a pattern steps lead to a match
@@ -9,7 +10,7 @@ pub mod CoursesLayout  -- how paths of states take a course: a choice's number i
 pub mod DecidesLayout  -- what an ordered list of states decides: the first of them from which a match is reached
 pub mod EnclosesLayout  -- where the states of a part lead, and in which slots they record
 pub mod Ends  -- where matches end
-pub mod Features  -- what stands in a pattern, in parts that may be there
+pub mod FirstBytesLayout  -- with which bytes matches begin
 pub mod FirstEnds  -- which end of a pattern is preferred
 pub mod FirstWays  -- which way of a pattern is preferred
 pub mod FirstsLayout  -- by which ways of a pattern steps lead to its match, and by which the first path does
@@ -24,7 +25,7 @@ pub mod Lines  -- the lines of a haystack in which a program matches, one after 
 pub mod LinesLayout  -- where the next line with a match may be
 pub mod LinksLayout  -- how the states of a part lead on
 pub mod LogLayout  -- the log of the backward pass
-pub mod NamesLayout  -- what the states of a part or of patterns name, and which features of patterns they have
+pub mod NamesLayout  -- what the states of a part or of patterns name, and which assertions they have
 pub mod NeededLayout  -- two bytes that stand side by side in every match
 pub mod NextMatches  -- which match is next; `last` is where the last one ended, if there was one
 pub mod OnePattern  -- what a program of one pattern answers, by the pattern alone: where it goes first, where next, and that it goes nowhere

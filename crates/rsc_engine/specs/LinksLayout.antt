@@ -5,8 +5,7 @@ use Rattle.rsc_nfa.specs.declared.state.State.TheVariants.{Fork, Accept}
 use Rattle.rsc_nfa.specs.Steps.{IsStep}
 use Rattle.rsc_engine.specs.Patterns.{Pattern, Empty, Then, Either, Subject, Goes}
 use Rattle.rsc_engine.specs.EnclosesLayout.{Encloses}
-use Rattle.rsc_engine.specs.NamesLayout.{Names}
-use Rattle.rsc_engine.specs.Features.{has_feature}
+use Rattle.rsc_engine.specs.NamesLayout.{Names, asked_by}
 use Rattle.rsc_engine.specs.GroupNumbers.{count_groups, numbered}
 use Rattle.rsc_engine.specs.ByWaysLayout.{ByWays}
 use Rattle.rsc_engine.specs.TakesLayout.{TakesCourse}
@@ -49,7 +48,7 @@ pub record Adds (old new : List State) (Holds : List State → Type 0) : Type 0 
 abbrev pub Builds : ℕ × ℕ → List State → List State → ℕ → ℕ → Pattern → Type 0
 Builds slots old new first next p =
     Adds old new (λ states. Realizes states first next p × Encloses slots.0 (length old) (length new) first next states
-    × Names slots.1 (has_feature p) (length old) (length new) states × ByWays states first next p
+    × Names slots.1 (asked_by p) (length old) (length new) states × ByWays states first next p
     × TakesCourse (length old) (length new) first next p states)
 
 -- between which slots the parts of a pattern record: after the end of its whole match, below the limit of all slots
@@ -74,7 +73,7 @@ pub record IsAdded (old new : List State) (state : State) (id : ℕ) : Type 0 wh
   pub added : new ≡ old ++ state ∷ []
   pub one : length new ≡ length old + 1
 
--- a fork that leads to a part or to what comes next, preferably to the part, if it may come often
+-- a fork that leads to a part or to what comes next: greedy, the part is preferred
 abbrev pub choice_of : Bool → ℕ → ℕ → State
 choice_of true part next = Fork part next
 choice_of false part next = Fork next part
@@ -94,5 +93,5 @@ optional true p = Either p Empty
 optional false p = Either Empty p
 
 abbrev pub up_to : Bool → ℕ → Pattern → Pattern
-up_to often zero p = Empty
-up_to often (suc n) p = optional often (Then p (up_to often n p))
+up_to greedy zero p = Empty
+up_to greedy (suc n) p = optional greedy (Then p (up_to greedy n p))

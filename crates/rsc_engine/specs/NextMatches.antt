@@ -42,22 +42,22 @@ abbrev pub IsPassed : Search → Option ℕ → ℕ → Type 0
 IsPassed e last at = HasNoMatch e at ⊎ (IsRepeated e last at ⊎ IsSplitAt e at)
 
 -- the next match may begin at the position: it's in the span, and if the search is anchored, at each earlier one there is a repeat
-pub record IsOpen (e : Search) (last : Option ℕ) (at : ℕ) : Type 0 where
+pub record MayBeNext (e : Search) (last : Option ℕ) (at : ℕ) : Type 0 where
   pub start : e.start ≤ at
   pub end : at ≤ e.end
   pub anchored : ¬ (e.mode ≡ No) → (earlier : ℕ) → e.start ≤ earlier → earlier < at → IsRepeated e last earlier
 
 -- the run begins at an open position, it's the preferred one from there, no repeat and splits no character, and each earlier open position is passed
 pub record IsNext (e : Search) (last : Option ℕ) (run : List (ℕ × ℕ)) : Type 0 where
-  pub opens : IsOpen e last (place run 0).1
+  pub begins : MayBeNext e last (place run 0).1
   pub preferred : IsPreferred e (e.start_state, (place run 0).1) run
   pub no_repeat : ¬ (IsRepeat last run)
   pub splits_none : ¬ (IsSplit e run)
-  pub passed : (at : ℕ) → at < (place run 0).1 → IsOpen e last at → IsPassed e last at
+  pub passed : (at : ℕ) → at < (place run 0).1 → MayBeNext e last at → IsPassed e last at
 
 -- each open position is passed
 abbrev pub IsOver : Search → Option ℕ → Type 0
-IsOver e last = (at : ℕ) → IsOpen e last at → IsPassed e last at
+IsOver e last = (at : ℕ) → MayBeNext e last at → IsPassed e last at
 
 -- the match and the captures are those of the next run
 pub record IsNextMatch (e : Search) (last : Option ℕ) (captures : Captured) (found : Matched) : Type 0 where

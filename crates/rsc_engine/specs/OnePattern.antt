@@ -58,7 +58,7 @@ IsPassedOfOne x p groups utf8 end last at =
     ((j : ℕ) → j ≤ end → ¬ (Goes x p at j)) ⊎ (StaysAt x p groups end at × IsLeftOut utf8 x.haystack last at)
 
 -- the next match may begin at the position: it's in the span, and if the search is anchored, at each earlier one the match would repeat the last one
-pub record IsOpenOfOne (x : Subject) (p : Pattern) (groups : Groups) (input : InputParts) (last : Option ℕ) (at : ℕ) : Type 0 where
+pub record MayBeNextOfOne (x : Subject) (p : Pattern) (groups : Groups) (input : InputParts) (last : Option ℕ) (at : ℕ) : Type 0 where
   pub start : input.span.start ≤ at
   pub end : at ≤ input.span.end
   pub anchored : ¬ (input.anchored ≡ No) → (earlier : ℕ) → input.span.start ≤ earlier → earlier < at
@@ -66,11 +66,11 @@ pub record IsOpenOfOne (x : Subject) (p : Pattern) (groups : Groups) (input : In
 
 -- the next match is here: it may begin there, it isn't empty and left out, and each earlier position of the input's span is passed
 pub record IsNextOfOne (x : Subject) (p : Pattern) (groups : Groups) (utf8 : Bool) (input : InputParts) (last : Option ℕ) (span : Span) : Type 0 where
-  pub opens : IsOpenOfOne x p groups input last span.start
+  pub begins : MayBeNextOfOne x p groups input last span.start
   pub taken : span.start ≡ span.end → ¬ (IsLeftOut utf8 x.haystack last span.start)
   pub passed : (at : ℕ) → input.span.start ≤ at → at < span.start → IsPassedOfOne x p groups utf8 input.span.end last at
 
 -- each position at which the next match may begin is passed, if the pattern may match
 abbrev pub IsOverOfOne : Subject → Pattern → Groups → Bool → InputParts → Option ℕ → Type 0
 IsOverOfOne x p groups utf8 input last = is_wanted (pattern_of_mode input.anchored) 0 ≡ true → (at : ℕ)
-    → IsOpenOfOne x p groups input last at → IsPassedOfOne x p groups utf8 input.span.end last at
+    → MayBeNextOfOne x p groups input last at → IsPassedOfOne x p groups utf8 input.span.end last at

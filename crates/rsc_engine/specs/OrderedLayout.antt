@@ -7,7 +7,7 @@ use Rattle.rsc_engine.specs.declared.dfa.ordered.Way.{Way}
 use Rattle.rsc_engine.specs.declared.dfa.ordered.Way.TheVariants.{Stuck, One, Over, Two, Match}
 use Rattle.rsc_engine.specs.Preferred.{IsLeftmostFirst}
 use Rattle.rsc_engine.specs.DecidesLayout.{last_of}
-use Rattle.rsc_engine.specs.PassesLayout.{IsNoFork, Looks}
+use Rattle.rsc_engine.specs.PassesLayout.{IsNoFork, Scans}
 
 -- what the state does at the position
 abbrev pub IsWayOn : Search → ℕ → ℕ → Way → Type 0
@@ -42,7 +42,7 @@ pub record IsLooked (e : Search) (i : ℕ) (list : List ℕ) (pattern : Option �
   pub seen : ℕ → Bool
   pub none_seen : (s : ℕ) → seen s ≡ false
   pub found : Option (ℕ × ℕ)
-  pub looks : Looks e i seen list [] next found
+  pub looks : Scans e i seen list [] next found
   pub of_pattern : IsOfPattern e i found pattern
 
 -- the leftmost-first match is of the pattern and ends at the position

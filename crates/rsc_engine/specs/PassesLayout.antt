@@ -14,22 +14,22 @@ IsNoFork e s = (a b : ℕ) → slice_get e.states s ≡ Some (Fork a b) → ⊥
 -- the states of a list are looked at in order: one that was seen is passed, a fork puts its ways there instead, the preferred one first, and so does a state
 -- from which one step leads on with no byte; where a step leads over the byte goes to the end of the next list; a match cuts off the rest, and is the place
 -- that is found
-pub data Looks (e : Search) (i : ℕ) : (ℕ → Bool) → List ℕ → List ℕ → List ℕ → Option (ℕ × ℕ) → Type 0 where
-  done : (seen : ℕ → Bool) (next : List ℕ) → Looks e i seen [] next next None
-  again : (seen : ℕ → Bool) (s : ℕ) (list next out : List ℕ) (found : Option (ℕ × ℕ)) → seen s ≡ true → Looks e i seen list next out found
-      → Looks e i seen (s ∷ list) next out found
+pub data Scans (e : Search) (i : ℕ) : (ℕ → Bool) → List ℕ → List ℕ → List ℕ → Option (ℕ × ℕ) → Type 0 where
+  done : (seen : ℕ → Bool) (next : List ℕ) → Scans e i seen [] next next None
+  again : (seen : ℕ → Bool) (s : ℕ) (list next out : List ℕ) (found : Option (ℕ × ℕ)) → seen s ≡ true → Scans e i seen list next out found
+      → Scans e i seen (s ∷ list) next out found
   fork : (seen after : ℕ → Bool) (s a b : ℕ) (list next out : List ℕ) (found : Option (ℕ × ℕ)) → IsMore seen s after → seen s ≡ false → IsPlace e (s, i)
-      → slice_get e.states s ≡ Some (Fork a b) → Looks e i after (a ∷ b ∷ list) next out found → Looks e i seen (s ∷ list) next out found
+      → slice_get e.states s ≡ Some (Fork a b) → Scans e i after (a ∷ b ∷ list) next out found → Scans e i seen (s ∷ list) next out found
   single : (seen after : ℕ → Bool) (s t : ℕ) (list next out : List ℕ) (found : Option (ℕ × ℕ)) → IsMore seen s after → seen s ≡ false → IsPlace e (s, i)
       → accepts e (s, i) ≡ false → IsNoFork e s → Leads e (s, i) (t, i) → ((q : ℕ × ℕ) → Leads e (s, i) q → q ≡ (t, i))
-      → Looks e i after (t ∷ list) next out found → Looks e i seen (s ∷ list) next out found
+      → Scans e i after (t ∷ list) next out found → Scans e i seen (s ∷ list) next out found
   stuck : (seen after : ℕ → Bool) (s : ℕ) (list next out : List ℕ) (found : Option (ℕ × ℕ)) → IsMore seen s after
-      → accepts e (s, i) ≡ false → ((q : ℕ × ℕ) → Leads e (s, i) q → ⊥) → Looks e i after list next out found → Looks e i seen (s ∷ list) next out found
+      → accepts e (s, i) ≡ false → ((q : ℕ × ℕ) → Leads e (s, i) q → ⊥) → Scans e i after list next out found → Scans e i seen (s ∷ list) next out found
   over : (seen after : ℕ → Bool) (s t : ℕ) (list next new out : List ℕ) (found : Option (ℕ × ℕ)) → IsMore seen s after → seen s ≡ false → IsPlace e (s, i)
       → accepts e (s, i) ≡ false → IsNoFork e s → Leads e (s, i) (t, i + 1) → ((q : ℕ × ℕ) → Leads e (s, i) q → q ≡ (t, i + 1))
-      → AddsOne next t new → Looks e i after list new out found → Looks e i seen (s ∷ list) next out found
+      → AddsOne next t new → Scans e i after list new out found → Scans e i seen (s ∷ list) next out found
   matched : (seen : ℕ → Bool) (s : ℕ) (list next : List ℕ) → seen s ≡ false → IsPlace e (s, i) → accepts e (s, i) ≡ true
-      → Looks e i seen (s ∷ list) next next (Some (s, i))
+      → Scans e i seen (s ∷ list) next next (Some (s, i))
 
 -- what a pass knows besides its list: matches may begin later; or they may not, and the last match found, if there is one
 pub data Status : Type 0 where

@@ -15,17 +15,17 @@ by_state (Some (Capture slot next)) f s = noted slot s
 by_state _ f s = s
 
 -- the state with the number f leads to the state g; a fork does once at a position
-abbrev pub Leads : Option State → Subject → ℕ → ℕ → Stand → ℕ → Type 0
-Leads (Some (ByteRange a b next)) x end f s g = (s.at < end) × IsTrue (is_between a b (slice_get x.haystack s.at)) × (g ≡ next)
-Leads (Some (Assert look next)) x end f s g = Holds look x.terminator x.word_chars x.haystack s.at × (g ≡ next)
-Leads (Some (Fork a b)) x end f s g = IsNew f s × ((g ≡ a) ⊎ (g ≡ b))
-Leads (Some (Capture slot next)) x end f s g = g ≡ next
-Leads _ x end f s g = ⊥
+abbrev pub PathLeads : Option State → Subject → ℕ → ℕ → Stand → ℕ → Type 0
+PathLeads (Some (ByteRange a b next)) x end f s g = (s.at < end) × IsTrue (is_between a b (slice_get x.haystack s.at)) × (g ≡ next)
+PathLeads (Some (Assert look next)) x end f s g = Holds look x.terminator x.word_chars x.haystack s.at × (g ≡ next)
+PathLeads (Some (Fork a b)) x end f s g = IsNew f s × ((g ≡ a) ⊎ (g ≡ b))
+PathLeads (Some (Capture slot next)) x end f s g = g ≡ next
+PathLeads _ x end f s g = ⊥
 
 -- states lead from the state f, one after the other, to one that accepts the pattern m, up to an end
 abbrev pub IsPath : List State → Subject → ℕ → ℕ → ℕ → Stand → List ℕ → Type 0
 IsPath states x end m f s [] = (slice_get states f ≡ Some (Accept m)) × (s.at ≤ end)
-IsPath states x end m f s (g ∷ rest) = Leads (slice_get states f) x end f s g × IsPath states x end m g (by_state (slice_get states f) f s) rest
+IsPath states x end m f s (g ∷ rest) = PathLeads (slice_get states f) x end f s g × IsPath states x end m g (by_state (slice_get states f) f s) rest
 
 abbrev pub HasPath : List State → Subject → ℕ → ℕ → ℕ → Stand → Type 0
 HasPath states x end m f s = (rest : List ℕ) × IsPath states x end m f s rest

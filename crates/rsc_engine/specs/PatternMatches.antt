@@ -73,7 +73,7 @@ IsPassedOf patterns lists e last at =
     NoneGoesOn patterns e at ⊎ (PrefersThere patterns lists e at (Repeats last) ⊎ PrefersThere patterns lists e at (Splits e))
 
 -- the next match may begin at the position: it's in the span, and if the search is anchored, at each earlier one the match would repeat the last one
-pub record IsOpenOf (patterns : List Pattern) (lists : GroupLists) (e : Search) (last : Option ℕ) (at : ℕ) : Type 0 where
+pub record MayBeNextOf (patterns : List Pattern) (lists : GroupLists) (e : Search) (last : Option ℕ) (at : ℕ) : Type 0 where
   pub start : e.start ≤ at
   pub end : at ≤ e.end
   pub anchored : ¬ (e.mode ≡ No) → (earlier : ℕ) → e.start ≤ earlier → earlier < at → PrefersThere patterns lists e earlier (Repeats last)
@@ -81,16 +81,16 @@ pub record IsOpenOf (patterns : List Pattern) (lists : GroupLists) (e : Search) 
 -- the match begins at an open position, it's the preferred one from there, no repeat and splits no character, and each earlier open position is passed
 pub record IsNextOfAll (patterns : List Pattern) (lists : GroupLists) (e : Search) (last : Option ℕ) (captures : Captured) (found : Matched) : Type 0 where
   pub records : List (ℕ × ℕ)
-  pub opens : IsOpenOf patterns lists e last found.span.start
+  pub begins : MayBeNextOf patterns lists e last found.span.start
   pub preferred : IsPreferredOf patterns lists e found records
   pub no_repeat : ¬ (Repeats last found)
   pub splits_none : ¬ (Splits e found)
-  pub passed : (at : ℕ) → at < found.span.start → IsOpenOf patterns lists e last at → IsPassedOf patterns lists e last at
+  pub passed : (at : ℕ) → at < found.span.start → MayBeNextOf patterns lists e last at → IsPassedOf patterns lists e last at
   pub hold : HoldRecords captures found records
 
 -- each open position is passed
 abbrev pub IsOverOf : List Pattern → GroupLists → Search → Option ℕ → Type 0
-IsOverOf patterns lists e last = (at : ℕ) → IsOpenOf patterns lists e last at → IsPassedOf patterns lists e last at
+IsOverOf patterns lists e last = (at : ℕ) → MayBeNextOf patterns lists e last at → IsPassedOf patterns lists e last at
 
 -- in every input, the first match and the next one of the program are those of the patterns
 pub record IsBuiltOf {W : Type 0} (chars : W → ℕ → Bool) (program : Compiled W) (patterns : List Pattern) : Type 0 where

@@ -4,7 +4,7 @@ use Rattle.std.specs.List.{AllPairs}
 use Rattle.rsc_engine.specs.Patterns.{Pattern, Empty, Never, Class, Literal, Assertion, Then, Either, Repeat, Group, Subject, may_be_empty}
 use Rattle.rsc_engine.specs.Courses.{Course, Skip, Dead, Byte, Here, After, Choose, Turn, Again, Within, Stand, begin, IsFirstNew}
 
--- the part or nothing, preferably the part or not
+-- the part or nothing: greedy, the part is preferred
 abbrev pub may_come : Bool → ℕ → Course → Course
 may_come true w c = Choose w c Skip
 may_come false w c = Choose w Skip c
@@ -27,17 +27,17 @@ AreCopies Is (suc n) c = (d : Course) × (e : Course) × (c ≡ After d e) × Is
 
 -- at most n copies, each after a choice of its own
 abbrev pub AreAtMost : (Course → Type 0) → Bool → ℕ → Course → Type 0
-AreAtMost Is often zero c = c ≡ Skip
-AreAtMost Is often (suc n) c = (w : ℕ) × (d : Course) × (e : Course) × (c ≡ may_come often w (After d e)) × Is d × AreAtMost Is often n e
+AreAtMost Is greedy zero c = c ≡ Skip
+AreAtMost Is greedy (suc n) c = (w : ℕ) × (d : Course) × (e : Course) × (c ≡ may_come greedy w (After d e)) × Is d × AreAtMost Is greedy n e
 
 -- once or more
 abbrev pub IsAgain : (Course → Type 0) → Bool → Course → Type 0
-IsAgain Is often c = (w : ℕ) × (d : Course) × (c ≡ Again w often d) × Is d
+IsAgain Is greedy c = (w : ℕ) × (d : Course) × (c ≡ Again w greedy d) × Is d
 
 -- any number of times: a loop over what may be empty is entered by a choice of its own, another one by its turn
 abbrev pub IsStar : (Course → Type 0) → Bool → Bool → Course → Type 0
-IsStar Is true often c = (w : ℕ) × (d : Course) × (c ≡ may_come often w d) × IsAgain Is often d
-IsStar Is false often c = (w : ℕ) × (d : Course) × (c ≡ Turn w often d) × Is d
+IsStar Is true greedy c = (w : ℕ) × (d : Course) × (c ≡ may_come greedy w d) × IsAgain Is greedy d
+IsStar Is false greedy c = (w : ℕ) × (d : Course) × (c ≡ Turn w greedy d) × Is d
 
 -- the pattern with its copies written out, in which the choices may have any numbers
 abbrev pub IsCourseOf : Pattern → Course → Type 0
@@ -48,13 +48,13 @@ IsCourseOf (Literal bytes) c = c ≡ bytes_in_order bytes
 IsCourseOf (Assertion look) c = c ≡ Here look
 IsCourseOf (Then a b) c = (d : Course) × (e : Course) × (c ≡ After d e) × IsCourseOf a d × IsCourseOf b e
 IsCourseOf (Either a b) c = (w : ℕ) × (d : Course) × (e : Course) × (c ≡ Choose w d e) × IsCourseOf a d × IsCourseOf b e
-IsCourseOf (Repeat zero None often a) c = IsStar (IsCourseOf a) (may_be_empty a) often c
-IsCourseOf (Repeat zero (Some max) often a) c = AreAtMost (IsCourseOf a) often max c
-IsCourseOf (Repeat (suc zero) None often a) c = IsAgain (IsCourseOf a) often c
-IsCourseOf (Repeat (suc (suc min)) None often a) c =
-    (d : Course) × (e : Course) × (c ≡ After d e) × AreCopies (IsCourseOf a) (suc min) d × IsAgain (IsCourseOf a) often e
-IsCourseOf (Repeat (suc min) (Some max) often a) c =
-    (d : Course) × (e : Course) × (c ≡ After d e) × AreCopies (IsCourseOf a) (suc min) d × AreAtMost (IsCourseOf a) often (max - suc min) e
+IsCourseOf (Repeat zero None greedy a) c = IsStar (IsCourseOf a) (may_be_empty a) greedy c
+IsCourseOf (Repeat zero (Some max) greedy a) c = AreAtMost (IsCourseOf a) greedy max c
+IsCourseOf (Repeat (suc zero) None greedy a) c = IsAgain (IsCourseOf a) greedy c
+IsCourseOf (Repeat (suc (suc min)) None greedy a) c =
+    (d : Course) × (e : Course) × (c ≡ After d e) × AreCopies (IsCourseOf a) (suc min) d × IsAgain (IsCourseOf a) greedy e
+IsCourseOf (Repeat (suc min) (Some max) greedy a) c =
+    (d : Course) × (e : Course) × (c ≡ After d e) × AreCopies (IsCourseOf a) (suc min) d × AreAtMost (IsCourseOf a) greedy (max - suc min) e
 IsCourseOf (Group slot a) c = (d : Course) × (c ≡ Within slot d) × IsCourseOf a d
 
 -- the numbers of its choices
@@ -65,8 +65,8 @@ choices (Byte a b) = []
 choices (Here look) = []
 choices (After c d) = choices c ++ choices d
 choices (Choose w c d) = w ∷ (choices c ++ choices d)
-choices (Turn w often c) = w ∷ choices c
-choices (Again w often c) = w ∷ choices c
+choices (Turn w greedy c) = w ∷ choices c
+choices (Again w greedy c) = w ∷ choices c
 choices (Within slot c) = choices c
 
 -- a course of the pattern in which each choice has a number of its own

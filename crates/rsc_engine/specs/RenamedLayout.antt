@@ -11,8 +11,8 @@ AreRenamed R (Byte a b) e = e ≡ Byte a b
 AreRenamed R (Here look) e = e ≡ Here look
 AreRenamed R (After c d) e = (f : Course) × (g : Course) × (e ≡ After f g) × AreRenamed R c f × AreRenamed R d g
 AreRenamed R (Choose w c d) e = (v : ℕ) × (f : Course) × (g : Course) × (e ≡ Choose v f g) × R w v × AreRenamed R c f × AreRenamed R d g
-AreRenamed R (Turn w often c) e = (v : ℕ) × (f : Course) × (e ≡ Turn v often f) × R w v × AreRenamed R c f
-AreRenamed R (Again w often c) e = (v : ℕ) × (f : Course) × (e ≡ Again v often f) × R w v × AreRenamed R c f
+AreRenamed R (Turn w greedy c) e = (v : ℕ) × (f : Course) × (e ≡ Turn v greedy f) × R w v × AreRenamed R c f
+AreRenamed R (Again w greedy c) e = (v : ℕ) × (f : Course) × (e ≡ Again v greedy f) × R w v × AreRenamed R c f
 AreRenamed R (Within slot c) e = (f : Course) × (e ≡ Within slot f) × AreRenamed R c f
 
 -- one number stands for one

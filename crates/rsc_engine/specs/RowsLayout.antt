@@ -43,8 +43,8 @@ middle None = 0
 middle (Some p) = 1
 
 -- a step with no byte leads from a state to another, at a position of a small haystack; or a step over a byte does
-abbrev pub Follows : Machine → List ℕ → ℕ → ℕ → ℕ → Type 0
-Follows m near at s u = IsStep m.states m.terminator m.word_chars near (length near) (s, at) (u, at)
+abbrev pub Stays : Machine → List ℕ → ℕ → ℕ → ℕ → Type 0
+Stays m near at s u = IsStep m.states m.terminator m.word_chars near (length near) (s, at) (u, at)
 
 abbrev pub Moves : Machine → List ℕ → ℕ → ℕ → ℕ → Type 0
 Moves m near at s u = IsStep m.states m.terminator m.word_chars near (length near) (s, at) (u, at + 1)
@@ -68,7 +68,7 @@ AddsOne old s new = (new ≡ old ++ s ∷ []) ⊎ ((new ≡ old) × Contains old
 
 -- the small haystack stands for the position: the same steps are there
 pub record IsNear (e : Search) (i : ℕ) (near : List ℕ) (at : ℕ) : Type 0 where
-  pub follows : (s u : ℕ) → IsStep e.states e.terminator e.word_chars e.haystack e.end (s, i) (u, i) ↔ Follows (machine_of e) near at s u
+  pub follows : (s u : ℕ) → IsStep e.states e.terminator e.word_chars e.haystack e.end (s, i) (u, i) ↔ Stays (machine_of e) near at s u
   pub moves : (s u : ℕ) → i < e.end → IsStep e.states e.terminator e.word_chars e.haystack e.end (s, i) (u, i + 1) ↔ Moves (machine_of e) near at s u
 
 -- both are no byte, or both bytes of one class

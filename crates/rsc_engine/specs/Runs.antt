@@ -25,6 +25,7 @@ abbrev pub is_accepting : Option ℕ → Option State → Bool
 is_accepting wanted (Some (Accept q)) = is_wanted wanted q
 is_accepting wanted _ = false
 
+-- the state of the place accepts a pattern that may match
 abbrev pub accepts : Search → ℕ × ℕ → Bool
 accepts e p = is_accepting (pattern_of_mode e.mode) (slice_get e.states p.0)
 

@@ -17,8 +17,8 @@ size_of (Literal bytes) = length bytes
 size_of (Assertion look) = 1
 size_of (Then a b) = size_of a + size_of b
 size_of (Either a b) = size_of a + size_of b + 1
-size_of (Repeat min None often a) = size_of_loop min (may_be_empty a) (size_of a)
-size_of (Repeat min (Some max) often a) = min * size_of a + (max - min) * (size_of a + 1)
+size_of (Repeat min None greedy a) = size_of_loop min (may_be_empty a) (size_of a)
+size_of (Repeat min (Some max) greedy a) = min * size_of a + (max - min) * (size_of a + 1)
 size_of (Group slot a) = size_of a + 2
 
 -- how many states a program has: for each pattern two records of its match and its end, and a choice before each but the last

@@ -6,11 +6,11 @@ use Rattle.rsc_engine.specs.Patterns.{Subject}
 use Rattle.rsc_engine.specs.StepsLayout.{AreSteps, last_place}
 
 -- two lists of steps from a place go together up to a fork, at which the one goes the first way and the other doesn't
-abbrev pub IsBefore : List State → ℕ × ℕ → List (ℕ × ℕ) → List (ℕ × ℕ) → Type 0
-IsBefore states p [] other = ⊥
-IsBefore states p (q ∷ one) [] = ⊥
-IsBefore states p (q ∷ one) (r ∷ other) =
-    ((a : ℕ) × (b : ℕ) × (slice_get states p.0 ≡ Some (Fork a b)) × (q.0 ≡ a) × (r.0 ≢ a)) ⊎ ((q ≡ r) × IsBefore states q one other)
+abbrev pub StepsBefore : List State → ℕ × ℕ → List (ℕ × ℕ) → List (ℕ × ℕ) → Type 0
+StepsBefore states p [] other = ⊥
+StepsBefore states p (q ∷ one) [] = ⊥
+StepsBefore states p (q ∷ one) (r ∷ other) =
+    ((a : ℕ) × (b : ℕ) × (slice_get states p.0 ≡ Some (Fork a b)) × (q.0 ≡ a) × (r.0 ≢ a)) ⊎ ((q ≡ r) × StepsBefore states q one other)
 
 -- steps up to an end lead from a place to a state that accepts the pattern m
 pub record IsWay (states : List State) (x : Subject) (end m : ℕ) (p : ℕ × ℕ) (rest : List (ℕ × ℕ)) : Type 0 where

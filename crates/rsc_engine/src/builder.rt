@@ -1,23 +1,16 @@
 //! A builder: each call makes a part of a pattern, and larger parts are made of smaller ones.
-ghost use Rattle.std.specs.Prelude.{false, true, IsTrue, min, ◌≡◌, ◌<◌, ◌≤◌, ◌++◌, [], ◌∷◌, None, Some, Err, map, flat_map, length, IfOk, IfErr, OnOk, OnErr};
-ghost use Rattle.std.specs.List.{list_any};
+ghost use Rattle.std.specs.Prelude.{false, true, min, ◌≡◌, ◌<◌, ◌++◌, [], ◌∷◌, map, flat_map, length, IfOk, IfErr, OnOk, OnErr};
 ghost use Rattle.rsc_captures.specs.Groups.{groups_in};
-ghost use Rattle.rsc_nfa.specs.Classes.{asserts};
-ghost use Rattle.rsc_engine.specs.declared.error.Error.TheVariants.{OutOfMemory, EmptyClass, TooLarge};
+ghost use Rattle.rsc_engine.specs.declared.error.Error.TheVariants.{OutOfMemory};
 ghost use Rattle.rsc_engine.specs.Patterns as patterns;
 ghost use Rattle.rsc_engine.specs.FirstEnds.{loops_take_bytes};
-ghost use Rattle.rsc_engine.specs.Features.{asks};
 ghost use Rattle.rsc_engine.specs.GroupNumbers.{count_groups};
-ghost use Rattle.rsc_engine.specs.Patterns.{Empty, Never, Class, Literal, Assertion, Then, Either, Group, in_order, one_of, Recognizes};
-ghost use Rattle.rsc_engine.specs.GroupEnds.{RecordsEnds};
-ghost use Rattle.rsc_engine.specs.GroupOrder.{ClosesGroups};
-ghost use Rattle.rsc_engine.specs.PatternMatches.{IsBuiltOf};
-ghost use Rattle.rsc_engine.specs.PatternOrder.{PrefersLesser, PrefersFirstEnds, RecordsWays, RecordsFirstWays, RecordsPreferredWays};
-ghost use Rattle.rsc_engine.specs.Refusals.{FailsToBuild, IsErrorOf, RepeatsName, are_too_large, has_a_reversed_range};
-ghost use Rattle.rsc_engine.specs.Sizes.{size_of_program, most_states};
+ghost use Rattle.rsc_engine.specs.Patterns.{Empty, Never, Class, Literal, Assertion, Then, Either, Group, in_order, one_of};
+ghost use Rattle.rsc_engine.specs.Sizes.{most_states};
 ghost use Rattle.rsc_engine.specs.Trees.{pattern_in};
 ghost use Rattle.rsc_engine.specs.Parts.{pattern_of, patterns_of, groups_of_part, groups_of_pattern, lists_of, limit_of};
 
+mod build;
 mod compile;
 mod loops;
 mod names;
@@ -26,14 +19,11 @@ mod repeat;
 mod size;
 mod tree;
 
-use self::compile::compile;
-use self::names::{info_of, joined};
+use self::names::joined;
 pub use self::part::Part;
-use self::size::are_too_large;
 use self::tree::Tree;
-use crate::{Error, Program};
-use rsc_look::{Look, LookMatcher, WordClass};
-use rsc_nfa::Nfa;
+use crate::Error;
+use rsc_look::Look;
 use rsc_primitives::StateID;
 use std::alloc::Global;
 
@@ -111,7 +101,7 @@ impl<'n> Builder<'n> {
         self.limit = most;
     }
 
-    /// A byte from `start` to `end`. No program is built of a part with a range whose first byte is above its last.
+    /// A part that matches one byte from `start` to `end`, and none if `start` is above `end`.
     pub fn range(&self, start: u8, end: u8) -> Part<'n>
         ensures part { pattern_of result ≡ Class ((start, end) ∷ []) }
         ensures groups { groups_of_part result ≡ [] }
@@ -119,26 +109,26 @@ impl<'n> Builder<'n> {
         self.leaf(Tree::Range(start, end), false)
     }
 
-    /// A byte of one of the ranges. A loop over the class is fastest over bytes of the first range.
+    /// A part that matches one byte of some ranges. A range whose first byte is above its last has none, and a class without a byte never matches. A loop over
+    /// the class is fastest over bytes of the first range.
     ///
     /// # Errors
     ///
-    /// `EmptyClass` without a range, else out of memory.
+    /// Out of memory.
     pub fn class(&self, ranges: &[(u8, u8)]) -> Result<Part<'n>, Error>
         ensures part { IfOk result (λ part. pattern_of part ≡ Class ranges.now) }
         ensures groups { IfOk result (λ part. groups_of_part part ≡ []) }
-        ensures some { IfOk result (λ part. 0 < length ranges.now) }
-        ensures empty { length ranges.now ≡ 0 → result ≡ Err EmptyClass }
-        ensures refused { 0 < length ranges.now → IfErr result (λ e. e ≡ OutOfMemory) }
+        ensures refused { IfErr result (λ e. e ≡ OutOfMemory) }
     {
-        if ranges.is_empty() {
-            return Err(Error::EmptyClass);
-        }
         let ranges = Vec::from_slice(self.alloc, ranges)?;
         Ok(self.leaf(Tree::Class(ranges), false))
     }
 
-    /// These bytes. A text's are `text.as_bytes()`.
+    /// A part that matches exactly these bytes. A text's are `text.as_bytes()`.
+    ///
+    /// # Errors
+    ///
+    /// Out of memory.
     pub fn literal(&self, bytes: &[u8]) -> Result<Part<'n>, Error>
         ensures part { IfOk result (λ part. pattern_of part ≡ Literal bytes.now) }
         ensures groups { IfOk result (λ part. groups_of_part part ≡ []) }
@@ -149,15 +139,15 @@ impl<'n> Builder<'n> {
         Ok(self.leaf(Tree::Literal(bytes), may_be_empty))
     }
 
-    /// A position at which an assertion holds.
-    pub fn look(&self, look: Look) -> Part<'n>
+    /// A part that matches where an assertion holds, and takes no byte.
+    pub fn assertion(&self, look: Look) -> Part<'n>
         ensures part { pattern_of result ≡ Assertion look }
         ensures groups { groups_of_part result ≡ [] }
     {
         self.leaf(Tree::Assertion(look), true)
     }
 
-    /// The empty string, which is at each position.
+    /// A part that matches at each position, and takes no byte.
     pub fn empty(&self) -> Part<'n>
         ensures part { pattern_of result ≡ Empty }
         ensures groups { groups_of_part result ≡ [] }
@@ -165,7 +155,7 @@ impl<'n> Builder<'n> {
         self.leaf(Tree::Empty, true)
     }
 
-    /// What never matches, not even no byte.
+    /// A part that never matches.
     pub fn never(&self) -> Part<'n>
         ensures part { pattern_of result ≡ Never }
         ensures groups { groups_of_part result ≡ [] }
@@ -173,7 +163,7 @@ impl<'n> Builder<'n> {
         self.leaf(Tree::Never, false)
     }
 
-    /// One part after the other.
+    /// A part that matches one part and then the other.
     pub fn then(&self, one: Part<'n>, other: Part<'n>) -> Result<Part<'n>, Error>
         ensures part { IfOk result (λ part. pattern_of part ≡ Then (pattern_of one.entry) (pattern_of other.entry)) }
         ensures groups { IfOk result (λ part. groups_of_part part ≡ groups_of_part one.entry ++ groups_of_part other.entry) }
@@ -193,7 +183,11 @@ impl<'n> Builder<'n> {
         })
     }
 
-    /// All parts in their order.
+    /// A part that matches all of these, one after another.
+    ///
+    /// # Errors
+    ///
+    /// Out of memory.
     pub fn concat(&self, parts: Vec<Part<'n>>) -> Result<Part<'n>, Error>
         ensures part { IfOk result (λ part. pattern_of part ≡ in_order (map pattern_of parts.entry.items)) }
         ensures groups { IfOk result (λ part. groups_of_part part ≡ flat_map groups_of_part parts.entry.items) }
@@ -214,7 +208,11 @@ impl<'n> Builder<'n> {
         })
     }
 
-    /// One of the parts; an earlier one is preferred. Without a part it never matches.
+    /// A part that matches one of these; an earlier one is preferred. Without a part it never matches.
+    ///
+    /// # Errors
+    ///
+    /// Out of memory.
     pub fn one_of(&self, parts: Vec<Part<'n>>) -> Result<Part<'n>, Error>
         ensures part { IfOk result (λ part. pattern_of part ≡ one_of (map pattern_of parts.entry.items)) }
         ensures groups { IfOk result (λ part. groups_of_part part ≡ flat_map groups_of_part parts.entry.items) }
@@ -235,7 +233,11 @@ impl<'n> Builder<'n> {
         })
     }
 
-    /// Either part; the first is preferred.
+    /// A part that matches either of these; the first is preferred.
+    ///
+    /// # Errors
+    ///
+    /// Out of memory.
     pub fn either(&self, one: Part<'n>, other: Part<'n>) -> Result<Part<'n>, Error>
         ensures part { IfOk result (λ part. pattern_of part ≡ Either (pattern_of one.entry) (pattern_of other.entry)) }
         ensures groups { IfOk result (λ part. groups_of_part part ≡ groups_of_part one.entry ++ groups_of_part other.entry) }
@@ -293,114 +295,6 @@ impl<'n> Builder<'n> {
     {
         self.patterns.push(whole)?;
         Ok(())
-    }
-
-    /// The program of the finished patterns and of a last one. If haystacks are text, an iteration leaves out empty matches within
-    /// characters. Group 0 of a pattern is the whole match, and of the patterns that match from a position the first is preferred.
-    ///
-    /// A match goes its pattern's preferred way: the first that gets to a match, with the earlier alternative before the later, once more before enough if
-    /// the repetition is greedy, and enough before once more if it's lazy. On a way no choice is made twice at one position, which leaves out ways only
-    /// where a part that may be empty is repeated without a limit. A slot holds the position that the way records in it last.
-    ///
-    /// # Errors
-    ///
-    /// `TooLarge` if the patterns have more states than [`Builder::limit_states`] allows, or all together more than 1,073,741,823 groups, with one for the
-    /// whole match of each pattern; this is known before a state is made. Otherwise `Names` if a pattern has a name twice; otherwise `Faulty` if a range's
-    /// first byte is above its last, unless its part is repeated at most 0 times. Out of memory may come before the last two.
-    ///
-    /// # Examples
-    ///
-    /// ```
-    /// // The patterns `if` and [a-z]+, in this order.
-    /// let mut builder = Builder::new(rt.alloc());
-    /// let keyword = builder.literal(b"if")?;
-    /// builder.pattern(keyword)?;
-    /// let letters = builder.plus(builder.range(b'a', b'z'))?;
-    /// let program = builder.build(AsciiWord, true, letters)?;
-    /// let mut captures = program.captures(rt.alloc())?;
-    /// let found = find(rt.alloc(), &program, &Input::new(b"iff"), &mut captures)?;
-    /// // Both match from 0, and the first one is preferred.
-    /// assert!(rt; found.is_some_and(|it| it.pattern() == PatternID::ZERO && it.end() == 2));
-    /// ```
-    pub fn build<W: WordClass>(
-        self,
-        word_class: W,
-        utf8: bool,
-        last: Part<'n>,
-    ) -> Result<Program<W>, Error>
-        ensures matches { IfOk result (λ program. Recognizes W.word_chars program (patterns_of self.entry ++ pattern_of last.entry ∷ [])) }
-        ensures groups { IfOk result (λ program. program.automaton.groups ≡ lists_of self.entry ++ groups_of_pattern last.entry ∷ []) }
-        ensures ends { IfOk result (λ program. RecordsEnds W.word_chars program) }
-        ensures prefers { IfOk result (λ program. PrefersLesser W.word_chars program) }
-        ensures first_ends { IfOk result (λ program. PrefersFirstEnds W.word_chars program (patterns_of self.entry ++ pattern_of last.entry ∷ [])) }
-        ensures ways { IfOk result (λ program. RecordsWays W.word_chars program (patterns_of self.entry ++ pattern_of last.entry ∷ [])) }
-        ensures first_ways { IfOk result (λ program. RecordsFirstWays W.word_chars program (patterns_of self.entry ++ pattern_of last.entry ∷ [])) }
-        ensures preferred_ways { IfOk result (λ program. RecordsPreferredWays W.word_chars program (patterns_of self.entry ++ pattern_of last.entry ∷ [])) }
-        ensures closes { IfOk result (λ program. ClosesGroups W.word_chars program) }
-        ensures built { IfOk result (λ program. IsBuiltOf W.word_chars program (patterns_of self.entry ++ pattern_of last.entry ∷ [])) }
-        ensures text { IfOk result (λ program. program.utf8 ≡ utf8) }
-        ensures matcher { IfOk result (λ program. program.automaton.matcher ≡ (10, word_class)) }
-        ensures names { OnOk result (¬ (RepeatsName (lists_of self.entry ++ groups_of_pattern last.entry ∷ []))) }
-        ensures ordered { OnOk result (has_a_reversed_range (patterns_of self.entry ++ pattern_of last.entry ∷ []) ≡ false) }
-        ensures looks { IfOk result (λ program. (look : Look) → list_any (asserts look) program.automaton.states
-            ≡ list_any (asks look) (patterns_of self.entry ++ pattern_of last.entry ∷ [])) }
-        ensures size { IfOk result (λ program. (length program.automaton.states ≡ size_of_program (patterns_of self.entry ++ pattern_of last.entry ∷ []))
-            × (length program.automaton.states ≤ limit_of self.entry)) }
-        ensures large { IsTrue (are_too_large (limit_of self.entry) (patterns_of self.entry ++ pattern_of last.entry ∷ [])
-            (lists_of self.entry ++ groups_of_pattern last.entry ∷ [])) → result ≡ Err TooLarge }
-        ensures error { IfErr result (IsErrorOf (limit_of self.entry) (patterns_of self.entry ++ pattern_of last.entry ∷ [])
-            (lists_of self.entry ++ groups_of_pattern last.entry ∷ [])) }
-        ensures refused { IfErr result (FailsToBuild (patterns_of self.entry ++ pattern_of last.entry ∷ [])
-            (lists_of self.entry ++ groups_of_pattern last.entry ∷ [])) }
-    {
-        self.build_with(LookMatcher::new(word_class), utf8, last)
-    }
-
-    /// The program that `build` makes, with a matcher: its line terminator is where lines begin and end for `StartLF` and `EndLF`, and its word predicate says
-    /// which characters are of a word.
-    ///
-    /// # Errors
-    ///
-    /// `TooLarge`, otherwise `Names`, otherwise `Faulty`, as [`Builder::build`] says. Out of memory may come before the last two.
-    pub fn build_with<W: WordClass>(
-        mut self,
-        matcher: LookMatcher<W>,
-        utf8: bool,
-        last: Part<'n>,
-    ) -> Result<Program<W>, Error>
-        ensures matches { IfOk result (λ program. Recognizes W.word_chars program (patterns_of self.entry ++ pattern_of last.entry ∷ [])) }
-        ensures groups { IfOk result (λ program. program.automaton.groups ≡ lists_of self.entry ++ groups_of_pattern last.entry ∷ []) }
-        ensures ends { IfOk result (λ program. RecordsEnds W.word_chars program) }
-        ensures prefers { IfOk result (λ program. PrefersLesser W.word_chars program) }
-        ensures first_ends { IfOk result (λ program. PrefersFirstEnds W.word_chars program (patterns_of self.entry ++ pattern_of last.entry ∷ [])) }
-        ensures ways { IfOk result (λ program. RecordsWays W.word_chars program (patterns_of self.entry ++ pattern_of last.entry ∷ [])) }
-        ensures first_ways { IfOk result (λ program. RecordsFirstWays W.word_chars program (patterns_of self.entry ++ pattern_of last.entry ∷ [])) }
-        ensures preferred_ways { IfOk result (λ program. RecordsPreferredWays W.word_chars program (patterns_of self.entry ++ pattern_of last.entry ∷ [])) }
-        ensures closes { IfOk result (λ program. ClosesGroups W.word_chars program) }
-        ensures built { IfOk result (λ program. IsBuiltOf W.word_chars program (patterns_of self.entry ++ pattern_of last.entry ∷ [])) }
-        ensures text { IfOk result (λ program. program.utf8 ≡ utf8) }
-        ensures matcher { IfOk result (λ program. program.automaton.matcher ≡ matcher) }
-        ensures names { OnOk result (¬ (RepeatsName (lists_of self.entry ++ groups_of_pattern last.entry ∷ []))) }
-        ensures ordered { OnOk result (has_a_reversed_range (patterns_of self.entry ++ pattern_of last.entry ∷ []) ≡ false) }
-        ensures looks { IfOk result (λ program. (look : Look) → list_any (asserts look) program.automaton.states
-            ≡ list_any (asks look) (patterns_of self.entry ++ pattern_of last.entry ∷ [])) }
-        ensures size { IfOk result (λ program. (length program.automaton.states ≡ size_of_program (patterns_of self.entry ++ pattern_of last.entry ∷ []))
-            × (length program.automaton.states ≤ limit_of self.entry)) }
-        ensures large { IsTrue (are_too_large (limit_of self.entry) (patterns_of self.entry ++ pattern_of last.entry ∷ [])
-            (lists_of self.entry ++ groups_of_pattern last.entry ∷ [])) → result ≡ Err TooLarge }
-        ensures error { IfErr result (IsErrorOf (limit_of self.entry) (patterns_of self.entry ++ pattern_of last.entry ∷ [])
-            (lists_of self.entry ++ groups_of_pattern last.entry ∷ [])) }
-        ensures refused { IfErr result (FailsToBuild (patterns_of self.entry ++ pattern_of last.entry ∷ [])
-            (lists_of self.entry ++ groups_of_pattern last.entry ∷ [])) }
-    {
-        if are_too_large(self.limit, self.patterns.as_slice(), &last) {
-            return Err(Error::TooLarge);
-        }
-        self.pattern(last)?;
-        let info = info_of(self.alloc, self.patterns.as_slice())?;
-        let (states, first) = compile(self.alloc, &info, self.patterns.as_slice())?;
-        let nfa = Nfa::new(self.alloc, info, matcher, &states)?;
-        Ok(Program::of_patterns(nfa, first, utf8))
     }
 
     // The trees of parts, and the names of their groups.

@@ -47,7 +47,7 @@ impl<'p, W: WordClass> Model for Cache<'p, W> {
 }
 
 impl<'p, W: WordClass + AsciiWordClass> Cache<'p, W> {
-    /// What searches by the program keep: nothing yet.
+    /// An empty cache for searches by the program.
     ///
     /// # Errors
     ///
@@ -73,7 +73,7 @@ impl<'p, W: WordClass + AsciiWordClass> Cache<'p, W> {
         input: &Input<'_>,
         captures: &mut Captures,
     ) -> Result<Option<Match>, Error>
-        ensures program { self.new ≡ self.old }
+        ensures kept { self.new ≡ self.old }
         ensures found { IfOk result (λ found. IfSome found (IsFirstMatch (search_in W.word_chars self.old input.now) captures.new)) }
         ensures none { IfOk result (λ found. IfNone found (HasNone (search_in W.word_chars self.old input.now))) }
         ensures groups { captures.new.groups ≡ captures.old.groups }

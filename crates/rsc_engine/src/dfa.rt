@@ -4,12 +4,13 @@
 //! end ([`forward`]); backward it has the states from which a match is reached ([`retreat`] goes a step back), and says where the match begins ([`backward`])
 //! and, by the rows that were come to, what it records ([`along`]), where that is more than its ends ([`whole`]), until it comes to a [`quiet`] state. One
 //! backward pass over a whole span finds all matches [`ahead`]. The [`plan`] has what stays the same. [`needed`] finds bytes that each match has, without which
-//! no row is looked at.
-ghost use Rattle.std.specs.Prelude.{◌≡◌, ◌+◌, ◌≤◌, IfOk, IfErr, IfSome, IfNone, OnErr, true, false, length};
+//! no row is looked at, and [`first_bytes`] those with which each begins, so that a pass begins at the first of them.
+ghost use Rattle.std.specs.Prelude.{◌≡◌, ◌+◌, ◌<◌, ◌≤◌, ℕ, IfOk, IfErr, IfSome, IfNone, OnErr, true, false, length};
 ghost use Rattle.rsc_primitives.specs.Indices.{max_index};
 ghost use Rattle.rsc_search.specs.declared.anchored.Anchored.TheVariants.{No};
 ghost use Rattle.rsc_engine.specs.declared.error.Error.TheVariants.{OutOfMemory};
 ghost use Rattle.rsc_engine.specs.Searches.{search_in};
+ghost use Rattle.rsc_engine.specs.Runs.{HasNoMatch};
 ghost use Rattle.rsc_engine.specs.Preferred.{HasNone, IsFirstMatch, IsCleared, IsInSpan};
 ghost use Rattle.rsc_engine.specs.Ends.{IsEarliestEnd, IsLeftmostEnd};
 ghost use Rattle.rsc_engine.specs.RowsLayout.{machine, IsPlan};
@@ -23,6 +24,7 @@ mod backward_steps;
 mod begin_rows;
 mod beyond;
 mod entries;
+mod first_bytes;
 mod forward;
 mod forward_steps;
 mod lawful;
@@ -39,6 +41,8 @@ mod whole;
 use crate::{AsciiWordClass, Error, Program};
 pub(crate) use ahead::Ahead;
 use along::{Walk, match_along};
+use backward::part_from;
+use first_bytes::FirstBytes;
 use forward::first_end;
 use needed::Needed;
 use pass_table::PassTable;
@@ -89,8 +93,9 @@ pub struct Dfa<'p, W: WordClass> {
     loud: Vec<bool>,
     // Where the last forward pass stopped.
     stopped: usize,
-    // What each match has, if that is known, and whether it was looked for.
+    // What each match has, and with which bytes it begins, if that is known, and whether it was looked for.
     needed: Option<Needed>,
+    first: Option<FirstBytes>,
     is_sought: bool,
 }
 
@@ -107,6 +112,7 @@ impl<W: WordClass> Drop for Dfa<'_, W> {
             loud: _,
             stopped: _,
             needed: _,
+            first: _,
             is_sought: _,
         } = self;
     }
@@ -116,6 +122,7 @@ impl<'p, W: WordClass> Model for Dfa<'p, W> {
     ghost use Rattle.rsc_engine.specs.Searches.{Compiled};
     ghost use Rattle.std.specs.Prelude.{◌≡◌, IfSome};
     ghost use Rattle.rsc_engine.specs.NeededLayout.{NeedsPair};
+    ghost use Rattle.rsc_engine.specs.FirstBytesLayout.{HasFirst};
     ghost use Rattle.rsc_engine.specs.RowsLayout.{machine, IsPlan};
     ghost use Rattle.rsc_engine.specs.PassTableLayout.{IsPassTable};
     ghost use Rattle.rsc_engine.specs.QuietLayout.{AreQuiet};
@@ -129,7 +136,8 @@ impl<'p, W: WordClass> Model for Dfa<'p, W> {
         d.passes.beyond.items
         × AreQuiet d.plan.program.now.automaton.states d.loud.items
         × IfSome d.needed (λ n. NeedsPair (machine W.word_chars d.plan.program.now) n.first n.second)
-        × (d.plan.most_rows ≡ d.most_rows) };
+        × (d.plan.most_rows ≡ d.most_rows)
+        × IfSome d.first (λ f. HasFirst (machine W.word_chars d.plan.program.now) f.range) };
 }
 
 impl<'p, W: WordClass + AsciiWordClass> Dfa<'p, W> {
@@ -148,23 +156,25 @@ impl<'p, W: WordClass + AsciiWordClass> Dfa<'p, W> {
             loud: Vec::new(alloc),
             stopped: 0,
             needed: None,
+            first: None,
             is_sought: false,
         }
     }
 
-    // Looks for what each match has, once.
+    // Looks for what each match has, and with what it begins, once.
     fn seek(&mut self)
         ensures { self.new ≡ self.old }
     {
         if !self.is_sought {
             self.is_sought = true;
             self.needed = Needed::of(self.plan.program);
+            self.first = FirstBytes::of(self.plan.program);
         }
     }
 
     // Whether the input lacks what each match has. Only a long span is looked through.
     fn lacks_needed(&mut self, input: &Input<'_>) -> bool
-        ensures program { self.new ≡ self.old }
+        ensures kept { self.new ≡ self.old }
         ensures none { result ≡ true → HasNone (search_in W.word_chars self.old input.now) }
     {
         if !is_long(input) {
@@ -180,8 +190,8 @@ impl<'p, W: WordClass + AsciiWordClass> Dfa<'p, W> {
     // Looks for the loud states, once, if the captures are for more than the ends of matches.
     fn listen(&mut self, captures: &Captures) -> Result<(), Error>
         requires { length self.old.automaton.states ≤ max_index }
-        ensures program { self.new ≡ self.old }
-        ensures memory { IfErr result (λ e. e ≡ OutOfMemory) }
+        ensures kept { self.new ≡ self.old }
+        ensures refused { IfErr result (λ e. e ≡ OutOfMemory) }
     {
         let program = self.plan.program;
         if self.loud.len() == program.len() || is_whole(program, captures) {
@@ -204,7 +214,7 @@ impl<'p, W: WordClass + AsciiWordClass> Dfa<'p, W> {
     /// let mut builder = Builder::new(rt.alloc());
     /// let letters = builder.plus(builder.range(b'a', b'z'))?;
     /// builder.pattern(letters)?;
-    /// let boundary = builder.look(Look::WordUnicode);
+    /// let boundary = builder.assertion(Look::WordUnicode);
     /// let program = builder.build(UnicodeWord, true, boundary)?;
     /// let mut dfa = Dfa::new(rt.alloc(), &program, 1000);
     /// assert!(rt; dfa.earliest_end(&Input::new(b"- a"))? == Some(2));
@@ -212,7 +222,7 @@ impl<'p, W: WordClass + AsciiWordClass> Dfa<'p, W> {
     /// assert!(rt; dfa.earliest_end(&Input::new("-é".as_bytes()))? == Some(1));
     /// ```
     pub fn earliest_end(&mut self, input: &Input<'_>) -> Result<Option<usize>, Error>
-        ensures program { self.new ≡ self.old }
+        ensures kept { self.new ≡ self.old }
         ensures found { IfOk result (λ found. IfSome found (IsEarliestEnd (search_in W.word_chars self.old input.now))) }
         ensures none { IfOk result (λ found. IfNone found (HasNone (search_in W.word_chars self.old input.now))) }
         ensures refused { IfErr result (λ e. e ≡ OutOfMemory) }
@@ -229,8 +239,8 @@ impl<'p, W: WordClass + AsciiWordClass> Dfa<'p, W> {
     ///
     /// Out of memory.
     pub fn is_match(&mut self, input: &Input<'_>) -> Result<bool, Error>
-        ensures program { self.new ≡ self.old }
-        ensures some { IfOk result (λ found. found ≡ true → ¬ (HasNone (search_in W.word_chars self.old input.now))) }
+        ensures kept { self.new ≡ self.old }
+        ensures found { IfOk result (λ found. found ≡ true → ¬ (HasNone (search_in W.word_chars self.old input.now))) }
         ensures none { IfOk result (λ found. found ≡ false → HasNone (search_in W.word_chars self.old input.now)) }
         ensures refused { IfErr result (λ e. e ≡ OutOfMemory) }
     {
@@ -251,7 +261,7 @@ impl<'p, W: WordClass + AsciiWordClass> Dfa<'p, W> {
         input: &Input<'_>,
         captures: &mut Captures,
     ) -> Result<Option<Match>, Error>
-        ensures program { self.new ≡ self.old }
+        ensures kept { self.new ≡ self.old }
         ensures found { IfOk result (λ found. IfSome found (IsFirstMatch (search_in W.word_chars self.old input.now) captures.new)) }
         ensures none { IfOk result (λ found. IfNone found (HasNone (search_in W.word_chars self.old input.now))) }
         ensures groups { captures.new.groups ≡ captures.old.groups }
@@ -294,18 +304,37 @@ impl<'p, W: WordClass + AsciiWordClass> Dfa<'p, W> {
         input: &Input<'_>,
         earliest: bool,
     ) -> Result<Option<(PatternID, usize)>, Error>
-        ensures program { self.new ≡ self.old }
+        ensures kept { self.new ≡ self.old }
         ensures some { earliest ≡ false → IfOk result (λ found. IfSome found (λ f. IsEndOf (search_in W.word_chars self.old input.now) f.0 f.1)) }
         ensures earliest { earliest ≡ true → IfOk result (λ found. IfSome found (λ f. IsEarliestEnd (search_in W.word_chars self.old input.now) f.1)) }
         ensures none { IfOk result (λ found. IfNone found (HasNone (search_in W.word_chars self.old input.now))) }
-        ensures memory { IfErr result (λ e. e ≡ OutOfMemory) }
+        ensures refused { IfErr result (λ e. e ≡ OutOfMemory) }
     {
         if self.lacks_needed(input) {
             return Ok(None);
         }
-        let (found, stopped) = first_end(&self.plan, &mut self.passes, input, earliest)?;
+        let rest = part_from(input, self.first_begin(input));
+        let (found, stopped) = first_end(&self.plan, &mut self.passes, &rest, earliest)?;
         self.stopped = stopped;
         Ok(found)
+    }
+
+    // The first position at which a match may begin, as far as the byte tells with which each begins.
+    fn first_begin(&self, input: &Input<'_>) -> usize
+        ensures low { input.now.span.start ≤ result }
+        ensures high { result ≤ input.now.span.end + 1 }
+        ensures none { (at : ℕ) → input.now.span.start ≤ at → at < result → HasNoMatch (search_in W.word_chars self.now input.now) at }
+        ensures anchored { ¬ (input.now.anchored ≡ No) → result ≡ input.now.span.start }
+    {
+        let start = input.start();
+        let end = input.end();
+        if start > end || input.get_anchored().is_anchored() {
+            return start;
+        }
+        match self.first {
+            None => start,
+            Some(first) => first.next_in(input.haystack(), start, end),
+        }
     }
 
     /// The position at which the last forward pass stopped.
@@ -319,7 +348,7 @@ impl<'p, W: WordClass + AsciiWordClass> Dfa<'p, W> {
     ///
     /// Out of memory.
     pub fn leftmost_end(&mut self, input: &Input<'_>) -> Result<Option<usize>, Error>
-        ensures program { self.new ≡ self.old }
+        ensures kept { self.new ≡ self.old }
         ensures found { IfOk result (λ found. IfSome found (IsLeftmostEnd (search_in W.word_chars self.old input.now))) }
         ensures none { IfOk result (λ found. IfNone found (HasNone (search_in W.word_chars self.old input.now))) }
         ensures refused { IfErr result (λ e. e ≡ OutOfMemory) }

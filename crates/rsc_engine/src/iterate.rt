@@ -127,7 +127,7 @@ impl<'p, 'h, W: WordClass + AsciiWordClass> Matches<'p, 'h, W> {
             self.new ≡ record self.old { input = from_start self.old.input m.span.end; last = Some m.span.end })) }
         ensures over { IfOk result (λ found. IfNone found (self.new ≡ record self.old { input = from_start self.old.input (self.old.input.span.end + 1) })) }
         ensures kept { OnErr result (self.new ≡ self.old) }
-        ensures memory { IfErr result (λ e. e ≡ OutOfMemory) }
+        ensures refused { IfErr result (λ e. e ≡ OutOfMemory) }
         ensures later { IfOk result (λ found. IfSome found (λ m. ForSome self.old.last (λ end. end < m.span.end))) }
         ensures groups { captures.new.groups ≡ captures.old.groups }
         ensures slots { length captures.new.offsets ≡ length captures.old.offsets }
@@ -166,7 +166,7 @@ impl<'p, 'h, W: WordClass + AsciiWordClass> Rest<'p, 'h, W> {
         ensures over { IfOk result (λ found. IfNone found (self.new.input ≡ from_start self.old.input (self.old.input.span.end + 1))) }
         ensures kept { OnErr result (self.new.input ≡ self.old.input) }
         ensures program { self.new.program ≡ self.old.program }
-        ensures memory { IfErr result (λ e. e ≡ OutOfMemory) }
+        ensures refused { IfErr result (λ e. e ≡ OutOfMemory) }
         ensures later { IfOk result (λ found. IfSome found (λ m. ForSome self.old.last_end (λ end. end < m.span.end))) }
         ensures last { IfOk result (λ found. MatchOption found (self.new.last_end ≡ self.old.last_end) (λ m. self.new.last_end ≡ Some m.span.end)) }
         ensures last_kept { OnErr result (self.new.last_end ≡ self.old.last_end) }
@@ -215,7 +215,7 @@ impl<'p, 'h, W: WordClass + AsciiWordClass> Rest<'p, 'h, W> {
         ensures over { IfOk result (λ found. IfNone found (self.new.input ≡ self.old.input)) }
         ensures kept { OnErr result (self.new.input ≡ self.old.input) }
         ensures program { self.new.program ≡ self.old.program }
-        ensures memory { IfErr result (λ e. e ≡ OutOfMemory) }
+        ensures refused { IfErr result (λ e. e ≡ OutOfMemory) }
         ensures last { self.new.last_end ≡ self.old.last_end }
         ensures groups { captures.new.groups ≡ captures.old.groups }
         ensures slots { length captures.new.offsets ≡ length captures.old.offsets }
@@ -243,7 +243,7 @@ impl<'p, 'h, W: WordClass + AsciiWordClass> Rest<'p, 'h, W> {
         ensures over { IfOk result (λ found. IfNone found (self.new.input ≡ self.old.input)) }
         ensures kept { OnErr result (self.new.input ≡ self.old.input) }
         ensures program { self.new.program ≡ self.old.program }
-        ensures memory { IfErr result (λ e. e ≡ OutOfMemory) }
+        ensures refused { IfErr result (λ e. e ≡ OutOfMemory) }
         ensures last { self.new.last_end ≡ self.old.last_end }
         ensures groups { captures.new.groups ≡ captures.old.groups }
         ensures slots { length captures.new.offsets ≡ length captures.old.offsets }
@@ -271,7 +271,7 @@ impl<'p, 'h, W: WordClass + AsciiWordClass> Rest<'p, 'h, W> {
         ensures input { self.new.input ≡ self.old.input }
         ensures program { self.new.program ≡ self.old.program }
         ensures last { self.new.last_end ≡ self.old.last_end }
-        ensures memory { IfErr result (λ e. e ≡ OutOfMemory) }
+        ensures refused { IfErr result (λ e. e ≡ OutOfMemory) }
     {
         match self.ahead.take() {
             Some(ahead) => Ok(ahead),

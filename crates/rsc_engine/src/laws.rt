@@ -12,13 +12,13 @@ ghost use Rattle.rsc_engine.specs.Searches.{Search, Compiled, search_in};
 ghost use Rattle.rsc_engine.specs.Patterns.{Pattern, Group, Subject, Goes, may_be_empty, subject_of, IsMatchIn, Recognizes};
 ghost use Rattle.rsc_engine.specs.Runs.{IsMatchRun};
 ghost use Rattle.rsc_engine.specs.Preferred.{IsOnce, IsOnceAtForks, IsPreferred, IsLeftmostFirst, IsFirstMatch, MayBegin, HasNone};
-ghost use Rattle.rsc_engine.specs.NextMatches.{IsNext, IsOver, IsNextMatch, IsOpen, IsRepeated, IsSplitAt, Left, AreAll, steps_left};
+ghost use Rattle.rsc_engine.specs.NextMatches.{IsNext, IsOver, IsNextMatch, MayBeNext, IsRepeated, IsSplitAt, Left, AreAll, steps_left};
 ghost use Rattle.rsc_engine.specs.Ends.{IsEarliestEnd, IsLeftmostEnd};
 ghost use Rattle.rsc_engine.specs.GroupEnds.{RecordsEnds};
 ghost use Rattle.rsc_engine.specs.GroupOrder.{ClosesGroups};
 ghost use Rattle.rsc_engine.specs.PatternOrder.{PrefersLesser, PrefersFirstEnds, RecordsWays, RecordsFirstWays, RecordsPreferredWays};
 ghost use Rattle.rsc_engine.specs.FirstEnds.{loops_take_bytes, IsFirstEnd};
-ghost use Rattle.rsc_engine.specs.Ways.{Mark, last_in, GoesWith};
+ghost use Rattle.rsc_engine.specs.Ways.{Point, last_in, GoesWith};
 ghost use Rattle.rsc_engine.specs.FirstWays.{IsFirstWay};
 ghost use Rattle.rsc_engine.specs.GroupNumbers.{IsGroupOf, as_whole};
 ghost use Rattle.rsc_engine.specs.PreferredWays.{IsPreferredWay};
@@ -102,12 +102,12 @@ pub fn a_next_match_is_of_a_pattern<W: WordClass>()
         IsMatchIn patterns (search_in W.word_chars program input) found }
     ensures earlier { (program : Compiled W) (patterns : List Pattern) (input : InputParts) (last : Option ℕ) (captures : Captured)
         (found other : Matched) → Recognizes W.word_chars program patterns → IsNextMatch (search_in W.word_chars program input) last captures found →
-        other.span.start < found.span.start → IsOpen (search_in W.word_chars program input) last other.span.start →
+        other.span.start < found.span.start → MayBeNext (search_in W.word_chars program input) last other.span.start →
         IsMatchIn patterns (search_in W.word_chars program input) other →
         IsRepeated (search_in W.word_chars program input) last other.span.start ⊎ IsSplitAt (search_in W.word_chars program input) other.span.start }
     ensures over { (program : Compiled W) (patterns : List Pattern) (input : InputParts) (last : Option ℕ) (other : Matched) →
         Recognizes W.word_chars program patterns → IsOver (search_in W.word_chars program input) last →
-        IsOpen (search_in W.word_chars program input) last other.span.start → IsMatchIn patterns (search_in W.word_chars program input) other →
+        MayBeNext (search_in W.word_chars program input) last other.span.start → IsMatchIn patterns (search_in W.word_chars program input) other →
         IsRepeated (search_in W.word_chars program input) last other.span.start ⊎ IsSplitAt (search_in W.word_chars program input) other.span.start }
 {}
 
@@ -268,7 +268,7 @@ pub fn captures_are_of_the_first_way<W: WordClass>()
         (records : List (ℕ × ℕ)) × GoesWith (subject_of (search_in W.word_chars program input)) (as_whole program.automaton.groups found.pattern p)
         (found.span.start, []) (found.span.end, records)
         × ((slot : ℕ) → slot < length captures.offsets → slice_index_or captures.offsets slot None ≡ last_in records slot) }
-    ensures one { (x : Subject) (p : Pattern) (end : ℕ) (m n k : Mark) → IsFirstWay x p (λ l. l ≤ end) m n → IsFirstWay x p (λ l. l ≤ end) m k → n ≡ k }
+    ensures one { (x : Subject) (p : Pattern) (end : ℕ) (m n k : Point) → IsFirstWay x p (λ l. l ≤ end) m n → IsFirstWay x p (λ l. l ≤ end) m k → n ≡ k }
 {}
 
 /// If each part that is repeated without a limit takes a byte, a preferred way is the first way. So is that of the whole of a program's pattern, which ends at
@@ -349,7 +349,7 @@ pub fn there_is_one_match_of_patterns()
 /// What a way of a pattern finds recorded in a slot stays recorded there, or is recorded later: so a group that each way goes through is set.
 #[tactic(auto, using(crate::proofs::WaysLemmas::stays_recorded))]
 pub fn what_was_recorded_stays()
-    ensures { (x : Subject) (p : Pattern) (slot : ℕ) (m n : Mark) (i : ℕ) → GoesWith x p m n → last_in m.1 slot ≡ Some i →
+    ensures { (x : Subject) (p : Pattern) (slot : ℕ) (m n : Point) (i : ℕ) → GoesWith x p m n → last_in m.1 slot ≡ Some i →
         (j : ℕ) × (last_in n.1 slot ≡ Some j) }
 {}
 

@@ -114,7 +114,7 @@ fn first_line<W: WordClass + AsciiWordClass>(
     from: usize,
 ) -> Result<Option<Span>, Error>
     requires { from < length haystack.now → BeginsLine haystack.now from }
-    ensures program { dfa.new ≡ dfa.old }
+    ensures kept { dfa.new ≡ dfa.old }
     ensures found { IfOk result (λ found. IfSome found
         (IsNextLine W.word_chars (record { program = dfa.old; haystack = haystack.now; at = from }))) }
     ensures none { IfOk result (λ found. IfNone found
@@ -142,7 +142,7 @@ fn candidate<W: WordClass + AsciiWordClass>(
 ) -> Result<Option<Span>, Error>
     requires begins { BeginsLine haystack.now from }
     requires within { from < length haystack.now }
-    ensures program { dfa.new ≡ dfa.old }
+    ensures kept { dfa.new ≡ dfa.old }
     ensures some { IfOk result (λ found. IfSome found (IsCandidate haystack.now (HasMatchIn W.word_chars dfa.old haystack.now) from)) }
     ensures none { IfOk result (λ found. IfNone found
         (NoLine haystack.now (HasMatchIn W.word_chars dfa.old haystack.now) from (length haystack.now))) }
@@ -162,7 +162,7 @@ fn end_bound<W: WordClass + AsciiWordClass>(
 ) -> Result<Option<usize>, Error>
     requires begins { BeginsLine haystack.now from }
     requires within { from < length haystack.now }
-    ensures program { dfa.new ≡ dfa.old }
+    ensures kept { dfa.new ≡ dfa.old }
     ensures some { IfOk result (λ found. IfSome found (EndsFrom (search_from W.word_chars dfa.old haystack.now from))) }
     ensures none { IfOk result (λ found. IfNone found (HasNone (search_from W.word_chars dfa.old haystack.now from))) }
     ensures refused { IfErr result (λ e. e ≡ OutOfMemory) }

@@ -139,7 +139,7 @@ impl<W: WordClass> Program<W> {
     /// Out of memory.
     pub fn captures(&self, alloc: Global) -> Result<Captures, Error>
         ensures made { IfOk result (λ c. c ≡ no_offsets self.now.automaton.groups (2 * all_groups self.now.automaton.groups)) }
-        ensures slots { IfOk result (HasSlotsOf self.now) }
+        ensures room { IfOk result (HasSlotsOf self.now) }
         ensures refused { IfErr result (λ e. e ≡ OutOfMemory) }
     {
         Ok(Captures::all(alloc, self.nfa.group_info().clone()?)?)
@@ -148,8 +148,8 @@ impl<W: WordClass> Program<W> {
     /// The state at which each match begins.
     #[inline]
     pub fn start(&self) -> StateID
-        ensures start { result ≡ self.now.start }
-        ensures there { result < length self.now.automaton.states }
+        ensures value { result ≡ self.now.start }
+        ensures within { result < length self.now.automaton.states }
     {
         self.start
     }

@@ -11,7 +11,7 @@ use rsc_look::{AsciiWord, UnicodeWord, WordClass};
 /// ```
 /// // The searches take a program over `UnicodeWord`, since it is such a predicate.
 /// let builder = Builder::new(rt.alloc());
-/// let start = builder.look(Look::WordStartUnicode);
+/// let start = builder.assertion(Look::WordStartUnicode);
 /// let program = builder.build(UnicodeWord, true, start)?;
 /// let mut captures = program.captures(rt.alloc())?;
 /// let found = find(
@@ -23,7 +23,7 @@ use rsc_look::{AsciiWord, UnicodeWord, WordClass};
 /// assert!(rt; found.is_some_and(|it| it.start() == 1));
 /// ```
 pub trait AsciiWordClass: WordClass {
-    /// The law, for a proof: nothing is done.
+    /// States that the word characters below 128 are the word bytes, for a proof. It does nothing.
     fn agrees_with_ascii()
         ensures { (word_class : Self) → AgreesWithAscii (Self.word_chars word_class) };
 }

@@ -38,8 +38,8 @@ fn make(alloc: Global) -> Result<Program<UnicodeWord>, Error> {
     let other = pair(&builder, 0xD1, (0x80, 0x8F))?;
     let letter = builder.one_of(vec![in alloc; ascii, one, other]?)?;
     let letters = builder.plus(letter)?;
-    let before = builder.look(Look::WordUnicode);
-    let after = builder.look(Look::WordUnicode);
+    let before = builder.assertion(Look::WordUnicode);
+    let after = builder.assertion(Look::WordUnicode);
     let whole = builder.concat(vec![in alloc; before, letters, after]?)?;
     builder.build(UnicodeWord, true, whole)
 }

@@ -88,7 +88,7 @@ fn stars(alloc: Global, builder: &Builder<'static>) -> Result<Part<'static>, Err
 
 // `\b[a-z ]*=`
 fn words(alloc: Global, builder: &Builder<'static>) -> Result<Part<'static>, Error> {
-    let start = builder.look(Look::WordAscii);
+    let start = builder.assertion(Look::WordAscii);
     let letters = builder.class(&[(b'a', b'z'), (b' ', b' ')])?;
     let letters = builder.star(letters)?;
     let last = builder.range(b'=', b'=');

@@ -56,7 +56,7 @@ fn made(alloc: Global, look: Look) -> Result<Program<UnicodeWord>, Error> {
 
 // The pattern.
 fn whole(builder: &Builder<'static>, look: Look) -> Result<Part<'static>, Error> {
-    let one = builder.then(builder.look(look), builder.range(b'b', b'b'))?;
+    let one = builder.then(builder.assertion(look), builder.range(b'b', b'b'))?;
     let two = builder.either(two(builder, look)?, three(builder, look)?)?;
     builder.either(one, two)
 }
@@ -64,14 +64,14 @@ fn whole(builder: &Builder<'static>, look: Look) -> Result<Part<'static>, Error>
 // Its second alternative.
 fn two(builder: &Builder<'static>, look: Look) -> Result<Part<'static>, Error> {
     let letter = builder.either(builder.range(b'a', b'a'), builder.literal(b"\xC3\xA9")?)?;
-    let a = builder.then(builder.range(b'a', b'a'), builder.look(look))?;
+    let a = builder.then(builder.range(b'a', b'a'), builder.assertion(look))?;
     builder.then(a, builder.plus(letter)?)
 }
 
 // Its third one.
 fn three(builder: &Builder<'static>, look: Look) -> Result<Part<'static>, Error> {
     let byte = builder.either(builder.range(b'b', b'b'), builder.range(b'\n', b'\n'))?;
-    let last = builder.then(builder.look(look), builder.range(b' ', b' '))?;
+    let last = builder.then(builder.assertion(look), builder.range(b' ', b' '))?;
     builder.then(builder.star_lazy(byte)?, last)
 }
 

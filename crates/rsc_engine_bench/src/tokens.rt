@@ -28,7 +28,7 @@ fn make(alloc: Global, keywords: u8) -> Result<Program<AsciiWord>, Error> {
     for number in 0..keywords {
         let letters = [b'a' + number / 10 % 26, b'a' + number % 10];
         let keyword = builder.literal(&letters)?;
-        let whole = builder.then(keyword, builder.look(Look::WordEndAscii))?;
+        let whole = builder.then(keyword, builder.assertion(Look::WordEndAscii))?;
         builder.pattern(whole)?;
     }
     for (first, last) in [(b'a', b'z'), (b'A', b'Z'), (b'0', b'9'), (b' ', b' ')] {

@@ -1,5 +1,6 @@
 -- What the error of the Unicode assertions prints.
 use Rattle.std.specs.Prelude.{ℕ, List, codes}
 
+-- what a `UnicodeWordBoundaryError` displays
 abbrev pub missing_tables : List ℕ
 missing_tables = codes "Unicode-aware \\b and \\B are unavailable because the requisite data tables are missing, please enable the unicode-word-boundary feature"

@@ -7,19 +7,21 @@ use Rattle.rsc_look.specs.declared.side.Side.{Side}
 use Rattle.rsc_look.specs.declared.side.Side.TheVariants.{Absent, Invalid, WordCharacter, Other}
 use Rattle.rsc_look.specs.Looks.{is_unicode, line_feed, carriage_return}
 
--- the byte before a position of a haystack, and the byte after it
+-- the byte before a position of a haystack, if there is one
 abbrev pub byte_before : List ℕ → ℕ → Option ℕ
 byte_before h zero = None
 byte_before h (suc i) = slice_get h i
 
+-- the byte after a position of a haystack, if there is one
 abbrev pub byte_after : List ℕ → ℕ → Option ℕ
 byte_after h i = slice_get h i
 
--- there is a byte, and it is b; there is one, and it is a word byte
+-- there is a byte, and it is b
 abbrev pub is_byte : ℕ → Option ℕ → Bool
 is_byte b None = false
 is_byte b (Some x) = x == b
 
+-- there is a byte, and it is a word byte
 abbrev pub is_word_neighbor : Option ℕ → Bool
 is_word_neighbor None = false
 is_word_neighbor (Some x) = is_word_byte x
@@ -52,21 +54,24 @@ IsBefore W h i Invalid = (0 < i) × ((c : ℕ) → ¬ (EndsAt h i c))
 IsBefore W h i WordCharacter = (c : ℕ) × EndsAt h i c × (W c ≡ true)
 IsBefore W h i Other = (c : ℕ) × EndsAt h i c × (W c ≡ false)
 
--- and the side after it
+-- the side after a position, likewise
 abbrev pub IsAfter : (ℕ → Bool) → List ℕ → ℕ → Side → Type 0
 IsAfter W h i Absent = i ≡ length h
 IsAfter W h i Invalid = (i < length h) × ((c : ℕ) → ¬ (BeginsAt h i c))
 IsAfter W h i WordCharacter = (c : ℕ) × BeginsAt h i c × (W c ≡ true)
 IsAfter W h i Other = (c : ℕ) × BeginsAt h i c × (W c ≡ false)
 
+-- the side is invalid
 abbrev pub is_invalid : Side → Bool
 is_invalid Invalid = true
 is_invalid _ = false
 
+-- the side is a word character
 abbrev pub is_word_side : Side → Bool
 is_word_side WordCharacter = true
 is_word_side _ = false
 
+-- the side is absent, or a character that is no word character
 abbrev pub is_absent_or_other : Side → Bool
 is_absent_or_other Absent = true
 is_absent_or_other Other = true
@@ -94,6 +99,6 @@ pub record HoldsAtSides (l : Look) (W : ℕ → Bool) (h : List ℕ) (i : ℕ) :
 abbrev pub Holds : Look → ℕ → (ℕ → Bool) → List ℕ → ℕ → Type 0
 Holds l t W h i = MatchBool (is_unicode l) (HoldsAtSides l W h i) (IsTrue (holds_at_bytes l t (byte_before h i) (byte_after h i)))
 
--- the same for a matcher m: its line terminator, and its word predicate, of which `word_chars` says which they are
+-- the assertion holds for a matcher m: its line terminator, and its word predicate, of which `word_chars` says which they are
 abbrev pub HoldsFor : {C : Type 0} → (C → ℕ → Bool) → Look → ℕ × C → List ℕ → ℕ → Type 0
 HoldsFor word_chars l m h i = Holds l m.0 (word_chars m.1) h i

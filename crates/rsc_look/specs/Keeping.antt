@@ -42,7 +42,7 @@ pub record IsCoarsest (p : ℕ → Bool) (looks : List Look) (t : ℕ) (W : ℕ 
 abbrev pub AgreesWithAscii : (ℕ → Bool) → Type 0
 AgreesWithAscii W = (c : ℕ) → c < 128 → W c ≡ is_word_byte c
 
--- and so they are, if a listed assertion asks for them
+-- the word characters below 128 are the word bytes, if a listed assertion asks for them
 abbrev pub AgreesWhereAsked : (ℕ → Bool) → List Look → Type 0
 AgreesWhereAsked W looks = (l : Look) → Contains looks l → is_unicode l ≡ true → AgreesWithAscii W
 

@@ -33,7 +33,7 @@ has_one_of s looks = list_any (λ l. sets.contains s l) looks
 abbrev pub anchors : List Look
 anchors = Start ∷ End ∷ StartLF ∷ EndLF ∷ StartCRLF ∷ EndCRLF ∷ []
 
--- those about lines alone
+-- the assertions about the ends of lines alone
 abbrev pub line_anchors : List Look
 line_anchors = StartLF ∷ EndLF ∷ StartCRLF ∷ EndCRLF ∷ []
 
@@ -41,11 +41,11 @@ line_anchors = StartLF ∷ EndLF ∷ StartCRLF ∷ EndCRLF ∷ []
 abbrev pub ascii_word_assertions : List Look
 ascii_word_assertions = WordAscii ∷ WordAsciiNegate ∷ WordStartAscii ∷ WordEndAscii ∷ WordStartHalfAscii ∷ WordEndHalfAscii ∷ []
 
--- and those about words of Unicode
+-- the assertions about words of Unicode
 abbrev pub unicode_word_assertions : List Look
 unicode_word_assertions = WordUnicode ∷ WordUnicodeNegate ∷ WordStartUnicode ∷ WordEndUnicode ∷ WordStartHalfUnicode ∷ WordEndHalfUnicode ∷ []
 
--- all twelve about words
+-- all twelve assertions about words
 abbrev pub word_assertions : List Look
 word_assertions = unicode_word_assertions ++ ascii_word_assertions
 
@@ -53,6 +53,7 @@ word_assertions = unicode_word_assertions ++ ascii_word_assertions
 abbrev pub look_text : Look → List ℕ
 look_text l = encode_utf8 (char_of l)
 
+-- the characters of the assertions in order, or `∅` without one
 abbrev pub text_of_looks : List Look → List ℕ
 text_of_looks [] = encode_utf8 0x2205
 text_of_looks looks = flat_map look_text looks

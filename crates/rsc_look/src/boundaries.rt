@@ -33,8 +33,8 @@ impl<W: WordClass> LookMatcher<W> {
     /// assert!(rt; classes.get(b'c') != classes.get(b'd') && classes.get(b'\n') != classes.get(b'\r'));
     /// ```
     pub fn add_to_byteset(&self, look: Look, set: &mut ByteClassSet)
-        ensures adds { set.new ≡ sets.union set.old (boundaries_of look self.now.0) }
-        ensures at { (b : ℕ) → sets.contains set.new b ≡ (sets.contains set.old b || sets.contains (boundaries_of look self.now.0) b) }
+        ensures value { set.new ≡ sets.union set.old (boundaries_of look self.now.0) }
+        ensures members { (b : ℕ) → sets.contains set.new b ≡ (sets.contains set.old b || sets.contains (boundaries_of look self.now.0) b) }
         ensures exact { (is_unicode look ≡ true → AgreesWithAscii (W.word_chars self.now.1)) →
             IsExactFor (sets.contains set.new) look self.now.0 (W.word_chars self.now.1) }
     {
@@ -56,7 +56,7 @@ impl<W: WordClass> LookMatcher<W> {
     /// assert!(rt; classes.get(b'a') == classes.get(b'z') && classes.get(b'a') != classes.get(b'-'));
     /// ```
     pub fn classes_of(&self, looks: &[Look]) -> ByteClasses
-        ensures classes { result ≡ class_map (sets.contains (boundaries_of_each looks.now self.now.0)) }
+        ensures value { result ≡ class_map (sets.contains (boundaries_of_each looks.now self.now.0)) }
         ensures coarsest { AgreesWhereAsked (W.word_chars self.now.1) looks.now →
             IsCoarsestMap result looks.now self.now.0 (W.word_chars self.now.1) }
         ensures bounded { LastClassIsGreatest result }

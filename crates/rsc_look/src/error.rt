@@ -4,7 +4,7 @@ ghost use Rattle.std.specs.Prelude.{IsOk};
 use std::error::Error;
 use std::fmt;
 
-/// The tables of word characters are missing. They are always there, so no function returns this.
+/// The error of missing tables of word characters. No function returns it.
 #[derive(Clone, Debug, Drop)]
 pub struct UnicodeWordBoundaryError(());
 

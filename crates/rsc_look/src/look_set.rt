@@ -111,7 +111,7 @@ impl LookSet {
     #[inline]
     pub fn empty() -> LookSet
         ensures value { result ≡ sets.empty }
-        ensures none { (look : Look) → sets.contains result look ≡ false }
+        ensures members { (look : Look) → sets.contains result look ≡ false }
     {
         LookSet { bits: 0 }
     }
@@ -120,7 +120,7 @@ impl LookSet {
     #[inline]
     pub fn full() -> LookSet
         ensures value { result ≡ sets.from_list every_look }
-        ensures all { (look : Look) → sets.contains result look ≡ true }
+        ensures members { (look : Look) → sets.contains result look ≡ true }
     {
         LookSet { bits: ALL_BITS }
     }
@@ -164,7 +164,7 @@ impl LookSet {
     #[inline]
     pub fn bits(self) -> u32
         ensures value { result ≡ bits_of self }
-        ensures small { result < 2 ^ 18 }
+        ensures most { result < 2 ^ 18 }
     {
         self.bits
     }
@@ -258,7 +258,7 @@ impl LookSet {
     #[inline]
     pub fn subtract(self, other: LookSet) -> LookSet
         ensures value { result ≡ sets.difference self other }
-        ensures at { (look : Look) → sets.contains result look ≡ (sets.contains self look && not (sets.contains other look)) }
+        ensures members { (look : Look) → sets.contains result look ≡ (sets.contains self look && not (sets.contains other look)) }
     {
         LookSet {
             bits: self.bits & !other.bits,
@@ -269,7 +269,7 @@ impl LookSet {
     #[inline]
     pub fn set_subtract(&mut self, other: LookSet)
         ensures value { self.new ≡ sets.difference self.old other }
-        ensures at { (look : Look) → sets.contains self.new look ≡ (sets.contains self.old look && not (sets.contains other look)) }
+        ensures members { (look : Look) → sets.contains self.new look ≡ (sets.contains self.old look && not (sets.contains other look)) }
     {
         *self = self.subtract(other);
     }
@@ -279,7 +279,7 @@ impl LookSet {
     #[inline]
     pub fn union(self, other: LookSet) -> LookSet
         ensures value { result ≡ sets.union self other }
-        ensures at { (look : Look) → sets.contains result look ≡ (sets.contains self look || sets.contains other look) }
+        ensures members { (look : Look) → sets.contains result look ≡ (sets.contains self look || sets.contains other look) }
     {
         LookSet {
             bits: self.bits | other.bits,
@@ -290,7 +290,7 @@ impl LookSet {
     #[inline]
     pub fn set_union(&mut self, other: LookSet)
         ensures value { self.new ≡ sets.union self.old other }
-        ensures at { (look : Look) → sets.contains self.new look ≡ (sets.contains self.old look || sets.contains other look) }
+        ensures members { (look : Look) → sets.contains self.new look ≡ (sets.contains self.old look || sets.contains other look) }
     {
         *self = self.union(other);
     }
@@ -300,7 +300,7 @@ impl LookSet {
     #[inline]
     pub fn intersect(self, other: LookSet) -> LookSet
         ensures value { result ≡ sets.intersection self other }
-        ensures at { (look : Look) → sets.contains result look ≡ (sets.contains self look && sets.contains other look) }
+        ensures members { (look : Look) → sets.contains result look ≡ (sets.contains self look && sets.contains other look) }
     {
         LookSet {
             bits: self.bits & other.bits,
@@ -311,7 +311,7 @@ impl LookSet {
     #[inline]
     pub fn set_intersect(&mut self, other: LookSet)
         ensures value { self.new ≡ sets.intersection self.old other }
-        ensures at { (look : Look) → sets.contains self.new look ≡ (sets.contains self.old look && sets.contains other look) }
+        ensures members { (look : Look) → sets.contains self.new look ≡ (sets.contains self.old look && sets.contains other look) }
     {
         *self = self.intersect(other);
     }

@@ -106,7 +106,7 @@ impl<W: WordClass> LookMatcher<W> {
         self.line_terminator
     }
 
-    /// Whether an assertion holds at a position of a haystack, by its own call below.
+    /// Whether an assertion holds at a position of a haystack.
     ///
     /// No Unicode assertion holds inside an encoded character. What an assertion about bytes says of a haystack, its reverse says
     /// of the haystack read from the other end, with `\r` and `\n` exchanged for the two that look at `\r\n`; what a Unicode

@@ -237,10 +237,10 @@ impl<W: WordClass, A: Allocator + Clone + Drop> Nfa<W, A> {
     /// step exists on exactly one of the haystacks of one byte on both sides of it. With a Unicode assertion both need word characters
     /// that below 128 are the word bytes, and the first covers replacements within ASCII. Without one the classes are the coarsest.
     pub fn classes(&self) -> ByteClasses
-        ensures classes { result ≡ class_map (sets.contains (boundaries_of_states self.now.states self.now.matcher.0)) }
+        ensures value { result ≡ class_map (sets.contains (boundaries_of_states self.now.states self.now.matcher.0)) }
         ensures bounded { LastClassIsGreatest result }
         ensures faultless { AreFaultless self.now.groups self.now.states }
-        ensures kept { (has_unicode self.now.states ≡ true → AgreesWithAscii (W.word_chars self.now.matcher.1)) →
+        ensures keeps_runs { (has_unicode self.now.states ≡ true → AgreesWithAscii (W.word_chars self.now.matcher.1)) →
             KeepsRuns result self.now.states self.now.matcher.0 (W.word_chars self.now.matcher.1) }
         ensures needed { (has_unicode self.now.states ≡ true → AgreesWithAscii (W.word_chars self.now.matcher.1)) →
             IsEachNeeded result self.now.states self.now.matcher.0 (W.word_chars self.now.matcher.1) }
@@ -257,7 +257,7 @@ impl<W: WordClass, A: Allocator + Clone + Drop> Nfa<W, A> {
 
     // The boundaries of the ranges and the assertions of the states.
     fn boundaries(&self) -> ByteClassSet
-        ensures set { result ≡ boundaries_of_states self.now.states self.now.matcher.0 }
+        ensures value { result ≡ boundaries_of_states self.now.states self.now.matcher.0 }
         ensures faultless { AreFaultless self.now.groups self.now.states }
     {
         let mut set = ByteClassSet::empty();
@@ -280,11 +280,11 @@ impl<W: WordClass, A: Allocator + Clone + Drop> Nfa<W, A> {
     /// assert!(rt; nfa.classes().get(127) == nfa.classes().get(128));
     /// ```
     pub fn classes_with(&self, more: &ByteClassSet) -> ByteClasses
-        ensures classes { result ≡ class_map (sets.contains (sets.union (boundaries_of_states self.now.states self.now.matcher.0) more.now)) }
+        ensures value { result ≡ class_map (sets.contains (sets.union (boundaries_of_states self.now.states self.now.matcher.0) more.now)) }
         ensures bounded { LastClassIsGreatest result }
         ensures parted { (b : ℕ) → b < 255 → sets.contains more.now b ≡ true → ¬ (slice_index result b ≡ slice_index result (b + 1)) }
         ensures finer { IsFiner result (class_map (sets.contains (boundaries_of_states self.now.states self.now.matcher.0))) }
-        ensures kept { (has_unicode self.now.states ≡ true → AgreesWithAscii (W.word_chars self.now.matcher.1)) →
+        ensures keeps_runs { (has_unicode self.now.states ≡ true → AgreesWithAscii (W.word_chars self.now.matcher.1)) →
             KeepsRuns result self.now.states self.now.matcher.0 (W.word_chars self.now.matcher.1) }
     {
         rsc_alphabet::laws::one_class_is_together();
@@ -303,7 +303,7 @@ impl<W: WordClass, A: Allocator + Clone + Drop> Nfa<W, A> {
     /// assert!(rt; nfa.looks().is_empty());
     /// ```
     pub fn looks(&self) -> LookSet
-        ensures looks { (look : Look) → sets.contains result look ≡ list_any (asserts look) self.now.states }
+        ensures members { (look : Look) → sets.contains result look ≡ list_any (asserts look) self.now.states }
         ensures unicode { has_one_of result unicode_word_assertions ≡ has_unicode self.now.states }
     {
         let mut looks = LookSet::empty();
@@ -415,8 +415,8 @@ impl<W: WordClass, A: Allocator + Clone + Drop> Nfa<W, A> {
         requires { All (λ place. place.1 < usize.MAX) run.now }
         ensures groups { captures.new.groups ≡ captures.old.groups }
         ensures pattern { captures.new.pattern ≡ captures.old.pattern }
-        ensures count { length captures.new.offsets ≡ length captures.old.offsets }
-        ensures slots { (slot : ℕ) → slot < length captures.old.offsets →
+        ensures slots { length captures.new.offsets ≡ length captures.old.offsets }
+        ensures records { (slot : ℕ) → slot < length captures.old.offsets →
             slice_index_or captures.new.offsets slot None ≡ recorded self.now.states run.now slot }
     {
         let pattern = captures.pattern();

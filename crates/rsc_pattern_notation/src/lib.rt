@@ -67,7 +67,7 @@ impl<'n> Calls<'_, 'n> {
             b'c' => self.class(rest),
             b'a' => match look_of(rest) {
                 None => Ok(None),
-                Some(look) => Ok(Some(self.builder.look(look))),
+                Some(look) => Ok(Some(self.builder.assertion(look))),
             },
             b'e' => Ok(Some(self.builder.empty())),
             b'n' => Ok(Some(self.builder.never())),

@@ -24,6 +24,6 @@ step_text b =
 abbrev pub EncodesOnlyAscii : List ℕ → Type 0
 EncodesOnlyAscii h = (i c : ℕ) → BeginsAt h i c → c < 128
 
--- such bytes in quotes, one after the other
+-- a row of bytes in quotes, each as its text, one after the other
 abbrev pub haystack_text : List ℕ → List ℕ
 haystack_text h = 0x22 ∷ flat_map step_text h ++ 0x22 ∷ []

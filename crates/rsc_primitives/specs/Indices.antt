@@ -5,6 +5,7 @@ use Rattle.std.specs.Prelude.{ℕ, ◌≤◌, nat_le, ◌==◌, ◌-◌, ◌^◌
 abbrev pub max_index : ℕ
 max_index = 2147483646
 
+-- the number is that of an index
 abbrev pub IsIndex : ℕ → Type 0
 IsIndex n = n ≤ max_index
 

@@ -37,10 +37,11 @@ pub record EncodedFrom (h : List ℕ) (i j c : ℕ) : Type 0 where
   pub within : j ≤ length h
   pub encoded : Encodes (slice_range h i j) c
 
--- c begins at i, and ends at i
+-- c begins at i
 abbrev pub BeginsAt : List ℕ → ℕ → ℕ → Type 0
 BeginsAt h i c = (j : ℕ) × EncodedFrom h i j c
 
+-- c ends at i
 abbrev pub EndsAt : List ℕ → ℕ → ℕ → Type 0
 EndsAt h i c = (j : ℕ) × EncodedFrom h j i c
 

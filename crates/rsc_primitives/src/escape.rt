@@ -137,7 +137,7 @@ fn write_piece<W: fmt::Write>(piece: &[u8], f: &mut fmt::Formatter<W>) -> fmt::R
 #[inline(always)]
 fn put_byte(piece: &mut [u8; PIECE_SIZE], len: usize, byte: u8) -> usize
     requires { len + STEP_WIDTH ≤ PIECE_SIZE }
-    ensures bound { result ≤ STEP_WIDTH }
+    ensures most { result ≤ STEP_WIDTH }
     ensures text { take (len + result) piece.new ≡ take len piece.old ++ step_text byte }
 {
     let at = STEP_WIDTH * usize::from(byte);

@@ -122,15 +122,15 @@ module _ (laws : OneWay) (x : Subject) (groups : Groups) (p : Pattern) where
 
   same_next_way : (last : Option ℕ) (from : ℕ) (v w : Way) → IsNextWay x groups p last from v → IsNextWay x groups p last from w → v ≡ w
   same_next_way last from v w one other =
-      let low : v.start < w.start → ⊥ = λ before. not_passed last from v one (other.next.passed v.start one.next.opens.start before) in
-      let high : w.start < v.start → ⊥ = λ before. not_passed last from w other (one.next.passed w.start other.next.opens.start before) in
+      let low : v.start < w.start → ⊥ = λ before. not_passed last from v one (other.next.passed v.start one.next.begins.start before) in
+      let high : w.start < v.start → ⊥ = λ before. not_passed last from w other (one.next.passed w.start other.next.begins.start before) in
       same_way v w (omega (arith, low, high)) one.way other.way
 
   pub same_ways : (last : Option ℕ) (from : ℕ) (one other : List Way) → AreAllWays x groups p last from one → AreAllWays x groups p last from other
       → one ≡ other
   same_ways last from [] [] a b = refl
-  same_ways last from [] (w ∷ others) over b = absurd (not_passed last from w b.0 (over refl w.start b.0.next.opens))
-  same_ways last from (v ∷ rest) [] a over = absurd (not_passed last from v a.0 (over refl v.start a.0.next.opens))
+  same_ways last from [] (w ∷ others) over b = absurd (not_passed last from w b.0 (over refl w.start b.0.next.begins))
+  same_ways last from (v ∷ rest) [] a over = absurd (not_passed last from v a.0 (over refl v.start a.0.next.begins))
   same_ways last from (v ∷ rest) (w ∷ others) a b =
       let head : v ≡ w = same_next_way last from v w a.0 b.0 in
       let tail : rest ≡ others = same_ways (Some v.end) v.end rest others a.1

@@ -9,13 +9,15 @@ use Rattle.rsc_search.specs.declared.span.Span.{Span}
 use Rattle.rsc_search.specs.Spans.{cut}
 use Rattle.rsc_captures.specs.Captured.{Captured, group_span, named_span}
 
--- the bytes `$`, `{` and `}`
+-- the byte `$`
 abbrev pub dollar : ℕ
 dollar = 0x24
 
+-- the byte `{`
 abbrev pub opening : ℕ
 opening = 0x7B
 
+-- the byte `}`
 abbrev pub closing : ℕ
 closing = 0x7D
 

@@ -3,7 +3,7 @@ ghost use Rattle.std.specs.Prelude.{◌≡◌, ◌∷◌, [], IsTrue, IfOk, IfEr
 ghost use Rattle.rsc_search.specs.Inputs.{whole};
 ghost use Rattle.rsc_engine.specs.declared.error.Error.TheVariants.{OutOfMemory, TooLarge};
 ghost use Rattle.rsc_engine.specs.Parts.{pattern_of, groups_of_pattern};
-ghost use Rattle.rsc_engine.specs.Refusals.{IsErrorOf, RepeatsName, are_too_large, has_a_reversed_range};
+ghost use Rattle.rsc_engine.specs.Refusals.{IsErrorOf, RepeatsName, are_too_large};
 ghost use Rattle.rsc_engine.specs.Sizes.{most_states};
 ghost use Rattle.rsc_replace.specs.PartReplacements.{IsPartReplaced, read_as_text};
 ghost use Rattle.rsc_replace.specs.Replacements.{IsReplaced};
@@ -82,9 +82,10 @@ pub fn replace_all<W: WordClass + AsciiWordClass>(
 /// let part = builder.star(builder.range(b'a', b'a'))?;
 /// let out = replace_part(rt.alloc(), AsciiWord, part, b"baa", b"<$0>")?;
 /// assert!(rt; out.as_slice() == b"<>b<aa>".as_slice());
+/// // A range whose first byte is above its last has none.
 /// let reversed = builder.range(b'z', b'a');
-/// let refused = replace_part(rt.alloc(), AsciiWord, reversed, b"baa", b"-");
-/// assert!(rt; matches!(refused, Err(Error::Faulty)));
+/// let out = replace_part(rt.alloc(), AsciiWord, reversed, b"baa", b"-")?;
+/// assert!(rt; out.as_slice() == b"baa".as_slice());
 /// ```
 pub fn replace_part<W: WordClass + AsciiWordClass>(
     alloc: Global,
@@ -97,7 +98,6 @@ pub fn replace_part<W: WordClass + AsciiWordClass>(
         (groups_of_pattern part.entry) (pattern_of part.entry) template.now out.items) }
     ensures large { IsTrue (are_too_large most_states (pattern_of part.entry ∷ []) (groups_of_pattern part.entry ∷ [])) → result ≡ Err TooLarge }
     ensures names { OnOk result (¬ (RepeatsName (groups_of_pattern part.entry ∷ []))) }
-    ensures ordered { OnOk result (has_a_reversed_range (pattern_of part.entry ∷ []) ≡ false) }
     ensures refused { IfErr result (IsErrorOf most_states (pattern_of part.entry ∷ []) (groups_of_pattern part.entry ∷ [])) }
 {
     laws::one_pattern::a_match_of_one_pattern::<W>();

@@ -71,9 +71,9 @@ fn made(
         b'E' => builder.literal("é".as_bytes()),
         b'.' => builder.class(&[(b'a', b'b')]),
         b'W' => Ok(builder.range(b'a', b'z')),
-        b'B' => Ok(builder.look(Look::WordAscii)),
-        b'X' => Ok(builder.look(Look::Start)),
-        b'Z' => Ok(builder.look(Look::End)),
+        b'B' => Ok(builder.assertion(Look::WordAscii)),
+        b'X' => Ok(builder.assertion(Look::Start)),
+        b'Z' => Ok(builder.assertion(Look::End)),
         _ => builder.literal(&[call]),
     }
 }

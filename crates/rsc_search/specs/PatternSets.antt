@@ -4,6 +4,7 @@ use Rattle.std.specs.List.{list_any, range_with_len}
 use Rattle.std.specs.List.Sorted.{IsStrictlyIncreasing}
 use Rattle.std.specs.Str.{bytes_eq}
 
+-- what a contract sees of a pattern set
 pub record Patterns : Type 0 where
   pub capacity : ℕ
   pub members : List ℕ

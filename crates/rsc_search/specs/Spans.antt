@@ -15,7 +15,7 @@ is_char_boundary text i = i == length text || (nat_lt i (length text) && (nat_le
 abbrev pub cut : List ℕ → Span → Option (List ℕ)
 cut haystack s = if nat_le s.start s.end && nat_le s.end (length haystack) then Some (slice_range haystack s.start s.end) else None
 
--- the same of a text, where both ends are also character boundaries
+-- the bytes that a span cuts out of a text, where both ends are also character boundaries
 abbrev pub cut_text : List ℕ → Span → Option (List ℕ)
 cut_text text s = if is_char_boundary text s.start && is_char_boundary text s.end then cut text s else None
 

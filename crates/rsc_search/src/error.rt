@@ -76,7 +76,7 @@ impl MatchError {
         &self.kind
     }
 
-    /// The search met a byte at which it was told to stop, at that position.
+    /// The error of a search that met a byte at which it was told to stop, at that position.
     #[inline]
     pub fn quit(byte: u8, offset: usize) -> MatchError
         ensures { result ≡ Quit byte offset }
@@ -84,7 +84,7 @@ impl MatchError {
         MatchError::new(MatchErrorKind::Quit { byte, offset })
     }
 
-    /// The search stopped of itself, at that position.
+    /// The error of a search that stopped of itself, at that position.
     #[inline]
     pub fn gave_up(offset: usize) -> MatchError
         ensures { result ≡ GaveUp offset }
@@ -92,7 +92,7 @@ impl MatchError {
         MatchError::new(MatchErrorKind::GaveUp { offset })
     }
 
-    /// The haystack, of that length in bytes, is longer than this way of searching allows.
+    /// The error of a search over a haystack, of that length in bytes, that is longer than this way of searching allows.
     #[inline]
     pub fn haystack_too_long(len: usize) -> MatchError
         ensures { result ≡ HaystackTooLong len }
@@ -100,7 +100,7 @@ impl MatchError {
         MatchError::new(MatchErrorKind::HaystackTooLong { len })
     }
 
-    /// What was asked of where a match begins isn't supported.
+    /// The error of a search that doesn't support what was asked of where a match begins.
     #[inline]
     pub fn unsupported_anchored(mode: Anchored) -> MatchError
         ensures { result ≡ UnsupportedAnchored mode }

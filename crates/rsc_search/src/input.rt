@@ -193,7 +193,7 @@ impl<'h> Input<'h> {
         ensures bytes { result.now ≡ self.now.haystack }
         ensures within { self.now.span.end ≤ length self.now.haystack }
         ensures order { self.now.span.start ≤ self.now.span.end + 1 }
-        ensures small { self.now.span.end + 1 < 2 ^ 64 }
+        ensures most { self.now.span.end + 1 < 2 ^ 64 }
     {
         self.haystack
     }
@@ -201,10 +201,10 @@ impl<'h> Input<'h> {
     /// The position where the search begins.
     #[inline]
     pub fn start(&self) -> usize
-        ensures start { result ≡ self.now.span.start }
+        ensures value { result ≡ self.now.span.start }
         ensures order { result ≤ self.now.span.end + 1 }
         ensures within { self.now.span.end ≤ length self.now.haystack }
-        ensures small { self.now.span.end + 1 < 2 ^ 64 }
+        ensures most { self.now.span.end + 1 < 2 ^ 64 }
     {
         self.span.start
     }
@@ -212,10 +212,10 @@ impl<'h> Input<'h> {
     /// The position where the search ends.
     #[inline]
     pub fn end(&self) -> usize
-        ensures end { result ≡ self.now.span.end }
+        ensures value { result ≡ self.now.span.end }
         ensures within { result ≤ length self.now.haystack }
         ensures order { self.now.span.start ≤ result + 1 }
-        ensures small { result + 1 < 2 ^ 64 }
+        ensures most { result + 1 < 2 ^ 64 }
     {
         self.span.end
     }
@@ -223,9 +223,9 @@ impl<'h> Input<'h> {
     /// The span that is searched.
     #[inline]
     pub fn get_span(&self) -> Span
-        ensures span { result ≡ self.now.span }
+        ensures value { result ≡ self.now.span }
         ensures within { IsSpanWithin self.now.haystack result }
-        ensures small { result.end + 1 < 2 ^ 64 }
+        ensures most { result.end + 1 < 2 ^ 64 }
     {
         self.span
     }
@@ -237,7 +237,7 @@ impl<'h> Input<'h> {
         ensures end { result.end ≡ self.now.span.end }
         ensures within { result.end ≤ length self.now.haystack }
         ensures order { result.start ≤ result.end + 1 }
-        ensures small { result.end + 1 < 2 ^ 64 }
+        ensures most { result.end + 1 < 2 ^ 64 }
     {
         self.span.range()
     }
@@ -277,7 +277,7 @@ impl<'h> Input<'h> {
         ensures done { IsTrue result ↔ (self.now.span.end < self.now.span.start) }
         ensures within { self.now.span.end ≤ length self.now.haystack }
         ensures order { self.now.span.start ≤ self.now.span.end + 1 }
-        ensures small { self.now.span.end + 1 < 2 ^ 64 }
+        ensures most { self.now.span.end + 1 < 2 ^ 64 }
     {
         self.span.start > self.span.end
     }

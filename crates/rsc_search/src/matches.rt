@@ -124,7 +124,7 @@ impl Match {
     /// The position of the match's first byte.
     #[inline]
     pub fn start(&self) -> usize
-        ensures start { result ≡ self.now.span.start }
+        ensures value { result ≡ self.now.span.start }
         ensures order { result ≤ self.now.span.end }
     {
         self.span.start
@@ -133,7 +133,7 @@ impl Match {
     /// The position after the match's last byte.
     #[inline]
     pub fn end(&self) -> usize
-        ensures end { result ≡ self.now.span.end }
+        ensures value { result ≡ self.now.span.end }
         ensures order { self.now.span.start ≤ result }
     {
         self.span.end
@@ -152,7 +152,7 @@ impl Match {
     /// The match's span.
     #[inline]
     pub fn span(&self) -> Span
-        ensures span { result ≡ self.now.span }
+        ensures value { result ≡ self.now.span }
         ensures order { result.start ≤ result.end }
     {
         self.span

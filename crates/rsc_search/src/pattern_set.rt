@@ -78,7 +78,7 @@ impl<A: Allocator> PatternSet<A> {
     pub fn contains(&self, pid: PatternID) -> bool
         ensures value { result ≡ has_member self.now.members pid }
         ensures below { IsTrue result → pid < self.now.capacity }
-        ensures set { IsSet self.now }
+        ensures lawful { IsSet self.now }
     {
         let p = pid.as_usize();
         is_bit_set(block_at(self.blocks.as_slice(), p / BITS), p % BITS)
@@ -88,10 +88,10 @@ impl<A: Allocator> PatternSet<A> {
     #[inline]
     pub fn insert(&mut self, pid: PatternID) -> bool
         requires { pid < self.old.capacity }
-        ensures set { self.new ≡ with_member self.old pid }
+        ensures value { self.new ≡ with_member self.old pid }
         ensures new { result ≡ not (has_member self.old.members pid) }
         ensures len { length self.new.members ≡ (if result then length self.old.members + 1 else length self.old.members) }
-        ensures most { length self.new.members ≤ self.new.capacity }
+        ensures within { length self.new.members ≤ self.new.capacity }
     {
         let p = pid.as_usize();
         let block = self.blocks[p / BITS];
@@ -112,12 +112,12 @@ impl<A: Allocator> PatternSet<A> {
     #[inline]
     pub fn try_insert(&mut self, pid: PatternID) -> Result<bool, PatternSetInsertError>
         ensures accepted { IsOk result ↔ (pid < self.old.capacity) }
-        ensures set { OnOk result (self.new ≡ with_member self.old pid) }
+        ensures value { OnOk result (self.new ≡ with_member self.old pid) }
         ensures new { IfOk result (λ new. new ≡ not (has_member self.old.members pid)) }
         ensures len { IfOk result (λ new. length self.new.members ≡ (if new then length self.old.members + 1 else length self.old.members)) }
-        ensures most { length self.new.members ≤ self.new.capacity }
-        ensures unchanged { OnErr result (self.new ≡ self.old) }
-        ensures error { IfErr result (λ e. e ≡ record { attempted = pid; capacity = self.old.capacity }) }
+        ensures within { length self.new.members ≤ self.new.capacity }
+        ensures kept { OnErr result (self.new ≡ self.old) }
+        ensures refused { IfErr result (λ e. e ≡ record { attempted = pid; capacity = self.old.capacity }) }
     {
         let capacity = self.capacity();
         if pid.as_usize() < capacity {
@@ -135,7 +135,7 @@ impl<A: Allocator> PatternSet<A> {
     #[tactic(auto, using(crate::proofs::PatternSetLayoutLemmas::is_set_below))]
     pub fn is_empty(&self) -> bool
         ensures empty { IsTrue result ↔ (length self.now.members ≡ 0) }
-        ensures set { IsSet self.now }
+        ensures lawful { IsSet self.now }
     {
         self.count == 0
     }
@@ -145,7 +145,7 @@ impl<A: Allocator> PatternSet<A> {
     #[tactic(auto, using(crate::proofs::PatternSetLayoutLemmas::is_set_below))]
     pub fn is_full(&self) -> bool
         ensures full { IsTrue result ↔ (length self.now.members ≡ self.now.capacity) }
-        ensures set { IsSet self.now }
+        ensures lawful { IsSet self.now }
     {
         self.count == self.capacity
     }
@@ -155,7 +155,7 @@ impl<A: Allocator> PatternSet<A> {
     pub fn len(&self) -> usize
         ensures value { result ≡ length self.now.members }
         ensures within { result ≤ self.now.capacity }
-        ensures set { IsSet self.now }
+        ensures lawful { IsSet self.now }
     {
         self.count
     }
@@ -164,9 +164,9 @@ impl<A: Allocator> PatternSet<A> {
     #[inline]
     #[tactic(auto, using(crate::proofs::PatternSetLayoutLemmas::is_set_below))]
     pub fn capacity(&self) -> usize
-        ensures capacity { result ≡ self.now.capacity }
-        ensures bound { result ≤ PatternID.LIMIT }
-        ensures set { IsSet self.now }
+        ensures value { result ≡ self.now.capacity }
+        ensures most { result ≤ PatternID.LIMIT }
+        ensures lawful { IsSet self.now }
     {
         self.capacity
     }
@@ -174,11 +174,11 @@ impl<A: Allocator> PatternSet<A> {
     /// The members, ascending; from the back, descending.
     #[inline]
     pub fn iter(&self) -> PatternSetIter<'_>
-        ensures members { result ≡ self.now.members }
+        ensures value { result ≡ self.now.members }
         ensures ascending { IsStrictlyIncreasing result }
         ensures below { All (λ p. p < self.now.capacity) result }
         ensures contained { All (λ p. has_member self.now.members p ≡ true) result }
-        ensures set { IsSet self.now }
+        ensures lawful { IsSet self.now }
     {
         let blocks = self.blocks.as_slice();
         let last = blocks.len().saturating_sub(1);

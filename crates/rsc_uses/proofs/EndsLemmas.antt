@@ -1,4 +1,4 @@
--- Where what comes often ends, and what comes seldom.
+-- Where greedy and lazy parts end.
 use Rattle.std.proofs.Common.{◌≡◌, ℕ, zero, suc, ◌+◌, ◌-◌, ◌<◌, ◌≤◌, ⊎_elim, Bool, true, false, ◌||◌, ◌&&◌, nat_le, true≢false, List, [], ◌∷◌, length, slice_get, slice_index_or, refl, sym, subst, arith, Option, Some, None}
 use Rattle.std.proofs.lemmas.Bool.{cases_eq, cases_lt, le-leb}
 use Rattle.std.proofs.lemmas.Option.{slice_get_within}
@@ -20,8 +20,8 @@ Range a b = Class ((a, b) ∷ [])
 
 -- the first times of a range
 abbrev AreRanges : Subject → ℕ → ℕ → Bool → ℕ → ℕ → (ℕ → Type 0) → ℕ → ℕ → Type 0
-AreRanges x a b often n min Wanted i j =
-    AreFirstTimes (λ Such k l. IsFirstEnd x (Range a b) Such k l) (Goes x (Range a b)) often n min None Wanted i j
+AreRanges x a b greedy n min Wanted i j =
+    AreFirstTimes (λ Such k l. IsFirstEnd x (Range a b) Such k l) (Goes x (Range a b)) greedy n min None Wanted i j
 
 there_is_one : (h : List ℕ) (a b k : ℕ) → is_between a b (slice_get h k) ≡ true → k < length h
 there_is_one h a b k e = go (slice_get h k) refl e
@@ -34,12 +34,12 @@ after : (i k m : ℕ) → m ≡ i + 1 → i ≤ k → ((k ≡ i) → ⊥) → m 
 after i k m e from apart = ⊎_elim (λ (l : i < k). omega (arith, l, e)) (λ (l : k ≤ i). absurd (apart (omega (arith, l, from)))) (cases_lt i k)
 
 -- each byte of the run is in the range
-pub run_bytes : (x : Subject) (a b n min i j k : ℕ) (often : Bool) (Wanted : ℕ → Type 0) → AreRanges x a b often n min Wanted i j → i ≤ k → k < j
+pub run_bytes : (x : Subject) (a b n min i j k : ℕ) (greedy : Bool) (Wanted : ℕ → Type 0) → AreRanges x a b greedy n min Wanted i j → i ≤ k → k < j
     → is_between a b (slice_get x.haystack k) ≡ true
-run_bytes x a b zero min i j k often Wanted f from to = absurd (omega (arith, f.1, from, to))
-run_bytes x a b (suc n) min i j k often Wanted f from to = ⊎_elim
+run_bytes x a b zero min i j k greedy Wanted f from to = absurd (omega (arith, f.1, from, to))
+run_bytes x a b (suc n) min i j k greedy Wanted f from to = ⊎_elim
     (λ (e : k ≡ i). rw e (one_of_one (is_between a b (slice_get x.haystack i)) f.3.0.0))
-    (λ (apart : (k ≡ i) → ⊥). run_bytes x a b n (min - 1) f.2 j k often Wanted f.4 (after i k f.2 f.3.0.1 from apart) to)
+    (λ (apart : (k ≡ i) → ⊥). run_bytes x a b n (min - 1) f.2 j k greedy Wanted f.4 (after i k f.2 f.3.0.1 from apart) to)
     (cases_eq k i)
 
 -- and the one after it isn't
@@ -59,10 +59,10 @@ run_ends x a b zero min i j f e =
     zero_least z = omega (arith, z)
 run_ends x a b (suc n) min i j f e = run_ends x a b n (min - 1) f.2 j f.4 e
 
-times_forward : (x : Subject) (a b n min i j : ℕ) (often : Bool) (Wanted : ℕ → Type 0) → AreRanges x a b often n min Wanted i j → i ≤ j
-times_forward x a b zero min i j often Wanted f = omega (arith, f.1)
-times_forward x a b (suc n) min i j often Wanted f =
-    let more = times_forward x a b n (min - 1) f.2 j often Wanted f.4 in omega (arith, more, f.3.0.1)
+times_forward : (x : Subject) (a b n min i j : ℕ) (greedy : Bool) (Wanted : ℕ → Type 0) → AreRanges x a b greedy n min Wanted i j → i ≤ j
+times_forward x a b zero min i j greedy Wanted f = omega (arith, f.1)
+times_forward x a b (suc n) min i j greedy Wanted f =
+    let more = times_forward x a b n (min - 1) f.2 j greedy Wanted f.4 in omega (arith, more, f.3.0.1)
 
 -- what comes seldom comes no more where it can be left
 pub left_first : (x : Subject) (a b n i j k : ℕ) (Wanted : ℕ → Type 0) → AreRanges x a b false n 0 Wanted i j → i ≤ k → k < j → Wanted k → ⊥

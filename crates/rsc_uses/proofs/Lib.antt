@@ -1,6 +1,6 @@
 mod AlphabetLemmas  -- tables that are filled unit by unit
 mod CapturesLemmas  -- the slots that a group was written into give its span
-mod EndsLemmas  -- where what comes often ends, and what comes seldom
+mod EndsLemmas  -- where greedy and lazy parts end
 mod EngineLemmas  -- all matches of a program, or all lines, one after the other
 mod FoundLemmas  -- what a search has found so far
 mod LexedLemmas  -- matches that stand side by side are tokens

@@ -12,11 +12,11 @@ use Rattle.rsc_captures.specs.Captured.{Captured, no_offsets, group_span}
 use Rattle.rsc_engine.specs.Searches.{Compiled, Search, search_in}
 use Rattle.rsc_engine.specs.Runs.{is_wanted}
 use Rattle.rsc_engine.specs.Preferred.{MayBegin}
-use Rattle.rsc_engine.specs.NextMatches.{IsOpen, IsRepeated, IsSplitAt}
+use Rattle.rsc_engine.specs.NextMatches.{MayBeNext, IsRepeated, IsSplitAt}
 use Rattle.rsc_engine.specs.Patterns.{Pattern, Then, Group, Subject, Goes, subject_of, IsMatchIn}
 use Rattle.rsc_engine.specs.FirstEnds.{IsFirstEnd}
 use Rattle.rsc_engine.specs.GroupNumbers.{as_whole}
-use Rattle.rsc_engine.specs.Ways.{Mark, last_in, with_record, GoesWith}
+use Rattle.rsc_engine.specs.Ways.{Point, last_in, with_record, GoesWith}
 use Rattle.rsc_engine.specs.PatternMatches.{recorded_span}
 use Rattle.rsc_uses.specs.Texts.{text_of, GoesNowhere, GoesNowhereIn, HoldsFirstWay, HoldsPreferredWay}
 
@@ -120,18 +120,18 @@ in_more s i slot j r h = decide (nat_eq s slot)
 
 -- what a way finds recorded stays recorded
 abbrev pub Stays : Subject → Type 0
-Stays x = (r : Pattern) (slot : ℕ) (k l : Mark) (i : ℕ) → GoesWith x r k l → last_in k.1 slot ≡ Some i → (j : ℕ) × (last_in l.1 slot ≡ Some j)
+Stays x = (r : Pattern) (slot : ℕ) (k l : Point) (i : ℕ) → GoesWith x r k l → last_in k.1 slot ≡ Some i → (j : ℕ) × (last_in l.1 slot ≡ Some j)
 
-pub group_set : (x : Subject) (whole slot : ℕ) (p q : Pattern) (m n : Mark) → Stays x → GoesWith x (Group whole (Then (Group slot p) q)) m n
+pub group_set : (x : Subject) (whole slot : ℕ) (p q : Pattern) (m n : Point) → Stays x → GoesWith x (Group whole (Then (Group slot p) q)) m n
     → (i j : ℕ) × (last_in n.1 slot ≡ Some i) × (last_in n.1 (slot + 1) ≡ Some j)
 group_set x whole slot p q m n stays g = (
   last_one.0,
   last_two.0,
-  subst (λ (k : Mark). last_in k.1 slot ≡ Some last_one.0) (sym g.2) last_one.1,
-  subst (λ (k : Mark). last_in k.1 (slot + 1) ≡ Some last_two.0) (sym g.2) last_two.1,
+  subst (λ (k : Point). last_in k.1 slot ≡ Some last_one.0) (sym g.2) last_one.1,
+  subst (λ (k : Point). last_in k.1 (slot + 1) ≡ Some last_two.0) (sym g.2) last_two.1,
 )
   where
-    inner : Mark
+    inner : Point
     inner = g.1.1.0
 
     part : (i : ℕ) × (last_in g.1.1.0.1 slot ≡ Some i)
@@ -141,11 +141,11 @@ group_set x whole slot p q m n stays g = (
     first = in_more (slot + 1) g.1.1.0.0 slot part.0 g.1.1.0.1 part.1
 
     one : (i : ℕ) × (last_in g.0.1 slot ≡ Some i)
-    one = stays q slot g.1.0 g.0 first.0 g.1.2 (subst (λ (k : Mark). last_in k.1 slot ≡ Some first.0) (sym g.1.1.2) first.1)
+    one = stays q slot g.1.0 g.0 first.0 g.1.2 (subst (λ (k : Point). last_in k.1 slot ≡ Some first.0) (sym g.1.1.2) first.1)
 
     two : (j : ℕ) × (last_in g.0.1 (slot + 1) ≡ Some j)
     two = stays q (slot + 1) g.1.0 g.0 g.1.1.0.0 g.1.2
-        (subst (λ (k : Mark). last_in k.1 (slot + 1) ≡ Some g.1.1.0.0) (sym g.1.1.2) (in_slot (slot + 1) g.1.1.0.0 g.1.1.0.1))
+        (subst (λ (k : Point). last_in k.1 (slot + 1) ≡ Some g.1.1.0.0) (sym g.1.1.2) (in_slot (slot + 1) g.1.1.0.0 g.1.1.0.1))
 
     last_one : (i : ℕ) × (last_in ((whole + 1, g.0.0) ∷ g.0.1) slot ≡ Some i)
     last_one = in_more (whole + 1) g.0.0 slot one.0 g.0.1 one.1
@@ -154,7 +154,7 @@ group_set x whole slot p q m n stays g = (
     last_two = in_more (whole + 1) g.0.0 (slot + 1) two.0 g.0.1 two.1
 
 -- so it has a span
-pub span_set : (x : Subject) (whole slot : ℕ) (p q : Pattern) (m n : Mark) → Stays x → GoesWith x (Group whole (Then (Group slot p) q)) m n
+pub span_set : (x : Subject) (whole slot : ℕ) (p q : Pattern) (m n : Point) → Stays x → GoesWith x (Group whole (Then (Group slot p) q)) m n
     → recorded_span n.1 slot ≡ None → ⊥
 span_set x whole slot p q m n stays g none =
     let both = group_set x whole slot p q m n stays g in
@@ -200,9 +200,9 @@ pub may_begin : {W : Type 0} (chars : W → ℕ → Bool) (program : Compiled W)
 may_begin chars program haystack i l = record { start = omega arith; end = l; anchored = λ other. absurd (other refl) }
 
 -- the same of a first match of an iteration
-pub is_open : {W : Type 0} (chars : W → ℕ → Bool) (program : Compiled W) (haystack : List ℕ) (i : ℕ) → i ≤ length haystack
-    → IsOpen (search_in chars program (whole haystack)) None i
-is_open chars program haystack i l = record { start = omega arith; end = l; anchored = λ other. absurd (other refl) }
+pub may_be_next : {W : Type 0} (chars : W → ℕ → Bool) (program : Compiled W) (haystack : List ℕ) (i : ℕ) → i ≤ length haystack
+    → MayBeNext (search_in chars program (whole haystack)) None i
+may_be_next chars program haystack i l = record { start = omega arith; end = l; anchored = λ other. absurd (other refl) }
 
 -- where no match came before, and the haystack isn't taken for text, none is left out
 pub none_left_out : (e : Search) (at : ℕ) → e.utf8 ≡ false → IsRepeated e None at ⊎ IsSplitAt e at → ⊥

@@ -1,10 +1,10 @@
 //! Where a match ends: after a greedy loop over a range the byte isn't in it, and a lazy loop ends at the first mark.
-ghost use Rattle.std.specs.Prelude.{◌≡◌, ◌+◌, ◌<◌, ◌≤◌, ◌⊎◌, ℕ, [], ◌∷◌, false, Some, None, IfOk, IfErr, IfSome, IfNone, IsTrue, slice_get};
+ghost use Rattle.std.specs.Prelude.{◌≡◌, ◌+◌, ◌<◌, ◌≤◌, ℕ, [], ◌∷◌, false, Some, None, IfOk, IfErr, IfSome, IfNone, IsTrue, slice_get};
 ghost use Rattle.rsc_nfa.specs.Steps.{is_between};
 ghost use Rattle.rsc_engine.specs.Patterns.{Class, Literal, Then, Repeat};
 ghost use Rattle.rsc_engine.specs.Parts.{pattern_of, groups_of_part};
 ghost use Rattle.rsc_engine.specs.Refusals.{RunsOut};
-ghost use Rattle.rsc_engine.specs.declared.error.Error.TheVariants.{OutOfMemory, Faulty};
+ghost use Rattle.rsc_engine.specs.declared.error.Error.TheVariants.{OutOfMemory};
 
 use crate::parts::find_part;
 use rsc_engine::{Builder, Error, Part};
@@ -24,7 +24,7 @@ pub fn find_run(
     ensures earlier { IfOk result (λ found. IfSome found (λ ends. (k : ℕ) → k < ends.0 → ¬ (IsTrue (is_between first last (slice_get haystack.now k))))) }
     ensures none { IfOk result (λ found. IfNone found ((k : ℕ) → ¬ (IsTrue (is_between first last (slice_get haystack.now k))))) }
     ensures longest { IfOk result (λ found. IfSome found (λ ends. ¬ (IsTrue (is_between first last (slice_get haystack.now ends.1))))) }
-    ensures refused { IfErr result (λ e. RunsOut e ⊎ ((e ≡ Faulty) × (last < first))) }
+    ensures refused { IfErr result RunsOut }
 {
     let builder = Builder::new(alloc);
     let run = builder.plus(builder.range(first, last))?;

@@ -133,7 +133,7 @@ pub fn both_match<W: WordClass + AsciiWordClass>(
     one: &Input<'_>,
     other: &Input<'_>,
 ) -> Result<bool, Error>
-    ensures program { cache.new ≡ cache.old }
+    ensures kept { cache.new ≡ cache.old }
     ensures not { IfOk result (λ both. both ≡ false →
         HasNone (search_in W.word_chars cache.old one.now) ⊎ HasNone (search_in W.word_chars cache.old other.now)) }
     ensures both { IfOk result (λ both. both ≡ true →

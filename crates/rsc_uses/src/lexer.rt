@@ -28,8 +28,7 @@ pub fn tokens_of<'n, W: WordClass + AsciiWordClass>(
     ensures tokens { IfOk result (λ tokens.
         AreLexed (text_of text.now (W.word_chars word_class)) (patterns_of builder.entry ++ pattern_of last.entry ∷ [])
         (lists_of builder.entry ++ groups_of_pattern last.entry ∷ []) 0 tokens.items) }
-    ensures refused { IfErr result (FailsToBuild (patterns_of builder.entry ++ pattern_of last.entry ∷ [])
-        (lists_of builder.entry ++ groups_of_pattern last.entry ∷ [])) }
+    ensures refused { IfErr result (FailsToBuild (lists_of builder.entry ++ groups_of_pattern last.entry ∷ [])) }
 {
     laws::anchored_matches_are_side_by_side::<W>();
     laws::a_match_ends_at_its_first_end::<W>();
@@ -52,8 +51,7 @@ pub fn tokens_with_group<'n, W: WordClass + AsciiWordClass>(
     ensures tokens { IfOk result (λ tokens.
         AreLexedWith (text_of text.now (W.word_chars word_class)) (patterns_of builder.entry ++ pattern_of last.entry ∷ [])
         (lists_of builder.entry ++ groups_of_pattern last.entry ∷ []) group 0 tokens.items) }
-    ensures refused { IfErr result (FailsToBuild (patterns_of builder.entry ++ pattern_of last.entry ∷ [])
-        (lists_of builder.entry ++ groups_of_pattern last.entry ∷ [])) }
+    ensures refused { IfErr result (FailsToBuild (lists_of builder.entry ++ groups_of_pattern last.entry ∷ [])) }
 {
     laws::anchored_matches_are_side_by_side::<W>();
     laws::a_match_ends_at_its_first_end::<W>();
@@ -89,8 +87,7 @@ pub fn tokens_of_parts<'n, W: WordClass + AsciiWordClass>(
         (map groups_of_pattern parts.entry.items ++ groups_of_pattern last.entry ∷ []) 0 tokens.items)) }
     ensures none { IfOk result (λ found. IsTrue (is_none found) ↔
         IsTrue (list_any may_be_empty (map pattern_of parts.entry.items ++ pattern_of last.entry ∷ []))) }
-    ensures refused { IfErr result (FailsToBuild (map pattern_of parts.entry.items ++ pattern_of last.entry ∷ [])
-        (map groups_of_pattern parts.entry.items ++ groups_of_pattern last.entry ∷ [])) }
+    ensures refused { IfErr result (FailsToBuild (map groups_of_pattern parts.entry.items ++ groups_of_pattern last.entry ∷ [])) }
 {
     let mut builder = Builder::new(alloc);
     for part in parts {
@@ -146,7 +143,7 @@ pub fn bytes_of_group<'h, W: WordClass + AsciiWordClass>(
         × (bytes.now ≡ slice_range text.now s t)
         × Goes (text_of text.now (W.word_chars word_class)) (pattern_of part.entry) i j)) }
     ensures none { IfOk result (λ found. IfNone found (group ≡ 0 → GoesNowhere (text_of text.now (W.word_chars word_class)) (pattern_of part.entry))) }
-    ensures refused { IfErr result (FailsToBuild (pattern_of part.entry ∷ []) (groups_of_pattern part.entry ∷ [])) }
+    ensures refused { IfErr result (FailsToBuild (groups_of_pattern part.entry ∷ [])) }
 {
     laws::a_group_that_begins_ends::<W>();
     laws::a_first_match_is_of_a_pattern::<W>();

@@ -4,13 +4,13 @@ ghost use Rattle.std.specs.Prelude.{◌≡◌, ◌*◌, ◌<◌, ◌≤◌, ◌+
 ghost use Rattle.rsc_captures.specs.Captured.{group_span};
 ghost use Rattle.rsc_captures.specs.Groups.{all_groups};
 ghost use Rattle.rsc_look.specs.declared.assertion.Look.{Look};
-ghost use Rattle.rsc_engine.specs.Features.{asks};
+ghost use Rattle.rsc_engine.specs.Asks.{asks};
 ghost use Rattle.rsc_engine.specs.declared.error.Error.TheVariants.{OutOfMemory};
 ghost use Rattle.rsc_engine.specs.Patterns.{Goes, Then, Either, Literal, Group, may_be_empty};
 ghost use Rattle.rsc_engine.specs.FirstEnds.{loops_take_bytes, IsFirstEnd};
 ghost use Rattle.rsc_engine.specs.GroupNumbers.{as_whole};
 ghost use Rattle.rsc_engine.specs.Parts.{pattern_of, groups_of_part, groups_of_pattern};
-ghost use Rattle.rsc_engine.specs.Refusals.{FailsToBuild, RepeatsName, has_a_reversed_range};
+ghost use Rattle.rsc_engine.specs.Refusals.{FailsToBuild, RepeatsName};
 ghost use Rattle.rsc_uses.specs.Texts.{text_of, GoesNowhere, GoesNowhereBefore, GoesNowhereIn, HoldsFirstWay, HoldsPreferredWay, EndsPreferredWay};
 
 use rsc_captures::Captures;
@@ -30,7 +30,7 @@ pub fn looks_of<W: WordClass + AsciiWordClass>(
     part: Part<'_>,
 ) -> Result<LookSet, Error>
     ensures asked { IfOk result (λ set. (look : Look) → sets.contains set look ≡ asks look (pattern_of part.entry)) }
-    ensures refused { IfErr result (FailsToBuild (pattern_of part.entry ∷ []) (groups_of_pattern part.entry ∷ [])) }
+    ensures refused { IfErr result (FailsToBuild (groups_of_pattern part.entry ∷ [])) }
 {
     let program = Builder::new(alloc).build(word_class, true, part)?;
     Ok(program.nfa().looks())
@@ -59,7 +59,7 @@ pub fn find_part<W: WordClass + AsciiWordClass>(
     ensures way { IfOk result (λ found. IfSome found (λ ends.
         EndsPreferredWay (text_of haystack.now (W.word_chars word_class)) (as_whole (groups_of_pattern part.entry ∷ []) 0 (pattern_of part.entry))
         (length haystack.now) ends.0 ends.1)) }
-    ensures refused { IfErr result (FailsToBuild (pattern_of part.entry ∷ []) (groups_of_pattern part.entry ∷ [])) }
+    ensures refused { IfErr result (FailsToBuild (groups_of_pattern part.entry ∷ [])) }
 {
     laws::one_pattern::a_match_of_one_pattern::<W>();
     laws::a_preferred_way_is_the_first_way();
@@ -91,7 +91,7 @@ pub fn find_with_slots<W: WordClass + AsciiWordClass>(
         HoldsFirstWay (text_of input.now.haystack (W.word_chars word_class)) (as_whole (groups_of_pattern part.entry ∷ []) 0 (pattern_of part.entry))
         input.now.span.end both.0.span both.1.offsets)) }
     ensures none { IfOk result (λ found. IfNone found (GoesNowhereIn input.now (W.word_chars word_class) (pattern_of part.entry))) }
-    ensures refused { IfErr result (FailsToBuild (pattern_of part.entry ∷ []) (groups_of_pattern part.entry ∷ [])) }
+    ensures refused { IfErr result (FailsToBuild (groups_of_pattern part.entry ∷ [])) }
 {
     laws::one_pattern::a_match_of_one_pattern::<W>();
     laws::a_preferred_way_is_the_first_way();
@@ -113,7 +113,7 @@ pub fn find_with_group<W: WordClass + AsciiWordClass>(
 ) -> Result<Option<(Match, Option<Span>)>, Error>
     ensures group { IfOk result (λ found. IfSome found (λ both. both.1 ≡ Some both.0.span)) }
     ensures none { IfOk result (λ found. IfNone found (GoesNowhereIn input.now (W.word_chars word_class) (pattern_of part.entry))) }
-    ensures refused { IfErr result (FailsToBuild (pattern_of part.entry ∷ []) (groups_of_pattern part.entry ∷ [])) }
+    ensures refused { IfErr result (FailsToBuild (groups_of_pattern part.entry ∷ [])) }
 {
     match find_with_slots(alloc, word_class, part, input)? {
         None => Ok(None),
@@ -133,8 +133,7 @@ pub fn find_before<'n, W: WordClass + AsciiWordClass>(
         Goes (text_of haystack.now (W.word_chars word_class)) (pattern_of part.entry) span.start span.end)) }
     ensures none { IfOk result (λ found. IfNone found
         (GoesNowhere (text_of haystack.now (W.word_chars word_class)) (Then (pattern_of part.entry) (pattern_of after.entry)))) }
-    ensures refused { IfErr result (FailsToBuild (Then (Group 0 (pattern_of part.entry)) (pattern_of after.entry) ∷ [])
-        ((None ∷ None ∷ groups_of_part part.entry ++ groups_of_part after.entry) ∷ [])) }
+    ensures refused { IfErr result (FailsToBuild ((None ∷ None ∷ groups_of_part part.entry ++ groups_of_part after.entry) ∷ [])) }
 {
     laws::a_first_match_is_of_a_pattern::<W>();
     laws::a_group_is_where_its_part_goes::<W>();
@@ -169,8 +168,7 @@ pub fn first_of_two<'n, W: WordClass + AsciiWordClass>(
         ¬ (Goes (text_of haystack.now (W.word_chars word_class)) (pattern_of one.entry) m.span.start j))) }
     ensures none { IfOk result (λ found. IfNone found (GoesNowhere (text_of haystack.now (W.word_chars word_class)) (pattern_of one.entry)
         × GoesNowhere (text_of haystack.now (W.word_chars word_class)) (pattern_of other.entry))) }
-    ensures refused { IfErr result (FailsToBuild (pattern_of one.entry ∷ pattern_of other.entry ∷ [])
-        (groups_of_pattern one.entry ∷ groups_of_pattern other.entry ∷ [])) }
+    ensures refused { IfErr result (FailsToBuild (groups_of_pattern one.entry ∷ groups_of_pattern other.entry ∷ [])) }
 {
     laws::a_first_match_is_of_a_pattern::<W>();
     laws::a_match_is_of_the_least_pattern::<W>();
@@ -198,7 +196,7 @@ pub fn first_of_iteration<W: WordClass + AsciiWordClass>(
     ensures first { IfOk result (λ found. IfSome found (λ ends.
         GoesNowhereBefore (text_of haystack.now (W.word_chars word_class)) (pattern_of part.entry) ends.0)) }
     ensures none { IfOk result (λ found. IfNone found (GoesNowhere (text_of haystack.now (W.word_chars word_class)) (pattern_of part.entry))) }
-    ensures refused { IfErr result (FailsToBuild (pattern_of part.entry ∷ []) (groups_of_pattern part.entry ∷ [])) }
+    ensures refused { IfErr result (FailsToBuild (groups_of_pattern part.entry ∷ [])) }
 {
     laws::a_next_match_is_of_a_pattern::<W>();
     // The haystack isn't taken for text, so no match is left out for being within a character.
@@ -226,7 +224,7 @@ pub fn first_in_text<W: WordClass + AsciiWordClass>(
         GoesNowhereBefore (text_of text.now (W.word_chars word_class)) (pattern_of part.entry) m.span.start)) }
     ensures none { IfOk result (λ found. IfNone found ((i j : ℕ) → j ≤ length text.now →
         ¬ (Goes (text_of text.now (W.word_chars word_class)) (pattern_of part.entry) i j))) }
-    ensures refused { IfErr result (FailsToBuild (pattern_of part.entry ∷ []) (groups_of_pattern part.entry ∷ [])) }
+    ensures refused { IfErr result (FailsToBuild (groups_of_pattern part.entry ∷ [])) }
 {
     laws::no_match_is_left_out::<W>();
     laws::one_pattern::a_match_of_one_pattern::<W>();
@@ -250,7 +248,7 @@ pub fn earliest_end_of_part<W: WordClass + AsciiWordClass>(
     ensures end { IfOk result (λ found. IfSome found (λ end.
         (i : ℕ) × Goes (text_of haystack.now (W.word_chars word_class)) (pattern_of part.entry) i end)) }
     ensures none { IfOk result (λ found. IfNone found (GoesNowhere (text_of haystack.now (W.word_chars word_class)) (pattern_of part.entry))) }
-    ensures refused { IfErr result (FailsToBuild (pattern_of part.entry ∷ []) (groups_of_pattern part.entry ∷ [])) }
+    ensures refused { IfErr result (FailsToBuild (groups_of_pattern part.entry ∷ [])) }
 {
     laws::an_earliest_end_is_of_a_pattern::<W>();
     laws::a_first_match_is_of_a_pattern::<W>();
@@ -277,7 +275,7 @@ pub fn leftmost_end_of_part<W: WordClass + AsciiWordClass>(
         × (loops_take_bytes (pattern_of part.entry) ≡ true →
         IsFirstEnd (text_of haystack.now (W.word_chars word_class)) (pattern_of part.entry) (λ j. j ≤ length haystack.now) i end))) }
     ensures none { IfOk result (λ found. IfNone found (GoesNowhere (text_of haystack.now (W.word_chars word_class)) (pattern_of part.entry))) }
-    ensures refused { IfErr result (FailsToBuild (pattern_of part.entry ∷ []) (groups_of_pattern part.entry ∷ [])) }
+    ensures refused { IfErr result (FailsToBuild (groups_of_pattern part.entry ∷ [])) }
 {
     laws::a_leftmost_end_is_of_the_first_match::<W>();
     laws::a_first_match_is_of_a_pattern::<W>();
@@ -290,7 +288,7 @@ pub fn leftmost_end_of_part<W: WordClass + AsciiWordClass>(
     }
 }
 
-/// A part that is one of two texts, preferably the first.
+/// A part that is one of two texts, of which the first is preferred.
 pub fn one_of_two<'n>(
     alloc: Global,
     builder: &Builder<'n>,
@@ -314,23 +312,21 @@ pub fn program_of_two<W: WordClass>(
     other: Part<'_>,
 ) -> Result<Program<W>, Error>
     ensures groups { IfOk result (λ program. program.automaton.groups ≡ (None ∷ groups_of_part one.entry ++ groups_of_part other.entry) ∷ []) }
-    ensures refused { IfErr result (FailsToBuild (Then (pattern_of one.entry) (pattern_of other.entry) ∷ [])
-        ((None ∷ groups_of_part one.entry ++ groups_of_part other.entry) ∷ [])) }
+    ensures refused { IfErr result (FailsToBuild ((None ∷ groups_of_part one.entry ++ groups_of_part other.entry) ∷ [])) }
 {
     let builder = Builder::new(alloc);
     let both = builder.then(one, other)?;
     builder.build(word_class, true, both)
 }
 
-/// The program of a part. If there is one, the part has no name twice, and no reversed range where it may occur.
+/// The program of a part. If there is one, the part has no name twice.
 pub fn program_of_part<W: WordClass>(
     alloc: Global,
     word_class: W,
     part: Part<'_>,
 ) -> Result<Program<W>, Error>
     ensures names { OnOk result (¬ (RepeatsName (groups_of_pattern part.entry ∷ []))) }
-    ensures ordered { OnOk result (has_a_reversed_range (pattern_of part.entry ∷ []) ≡ false) }
-    ensures refused { IfErr result (FailsToBuild (pattern_of part.entry ∷ []) (groups_of_pattern part.entry ∷ [])) }
+    ensures refused { IfErr result (FailsToBuild (groups_of_pattern part.entry ∷ [])) }
 {
     let program = Builder::new(alloc).build(word_class, true, part)?;
     Ok(program)

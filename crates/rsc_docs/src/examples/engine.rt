@@ -188,7 +188,7 @@ fn ends(rt: HostRuntime) -> Result<(), Fail> {
     let mut builder = Builder::new(rt.alloc());
     let letters = builder.plus(builder.range(b'a', b'z'))?;
     builder.pattern(letters)?;
-    let boundary = builder.look(Look::WordUnicode);
+    let boundary = builder.assertion(Look::WordUnicode);
     let program = builder.build(UnicodeWord, true, boundary)?;
     let mut dfa = Dfa::new(rt.alloc(), &program, 1000);
     assert!(rt; dfa.earliest_end(&Input::new(b"- a"))? == Some(2));
@@ -217,9 +217,15 @@ fn lines(rt: HostRuntime) -> Result<(), Fail> {
 fn error(rt: HostRuntime) -> Result<(), Fail> {
     // `Error`
     let builder = Builder::new(rt.alloc());
-    assert!(rt; matches!(builder.class(&[]), Err(Error::EmptyClass)));
-    let reversed = builder.range(b'z', b'a');
-    assert!(rt; matches!(builder.build(AsciiWord, true, reversed), Err(Error::Faulty)));
+    let one = builder.group(Some("x"), builder.empty())?;
+    let other = builder.group(Some("x"), builder.empty())?;
+    let both = builder.then(one, other)?;
+    assert!(rt;
+        matches!(
+            builder.build(AsciiWord, true, both),
+            Err(Error::RepeatedName)
+        )
+    );
     Ok(())
 }
 
@@ -228,7 +234,7 @@ fn word_class(rt: HostRuntime) -> Result<(), Fail> {
     // `AsciiWordClass`
     // The searches take a program over `UnicodeWord`, since it is such a predicate.
     let builder = Builder::new(rt.alloc());
-    let start = builder.look(Look::WordStartUnicode);
+    let start = builder.assertion(Look::WordStartUnicode);
     let program = builder.build(UnicodeWord, true, start)?;
     let mut captures = program.captures(rt.alloc())?;
     let found = find(

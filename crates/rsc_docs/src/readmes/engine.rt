@@ -8,7 +8,7 @@ use std::test::Fail;
 fn tokens(alloc: Global) -> Result<Program<AsciiWord>, Error> {
     let mut builder = Builder::new(alloc);
     let letters = builder.literal(b"if")?;
-    let keyword = builder.then(letters, builder.look(Look::WordEndAscii))?;
+    let keyword = builder.then(letters, builder.assertion(Look::WordEndAscii))?;
     builder.pattern(keyword)?;
     for text in ["==", "="] {
         let operator = builder.literal(text.as_bytes())?;

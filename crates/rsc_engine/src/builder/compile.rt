@@ -11,8 +11,7 @@ ghost use Rattle.rsc_engine.specs.GroupNumbers.{count_groups};
 ghost use Rattle.rsc_engine.specs.LinksLayout.{Adds, Builds, BuildsPart, IsAdded, slots_between};
 ghost use Rattle.rsc_engine.specs.BeginsLayout.{Begins, IsOfOne, IsOfSome};
 ghost use Rattle.rsc_engine.specs.FirstsLayout.{OrdersOne, OrdersSome};
-ghost use Rattle.rsc_engine.specs.NamesLayout.{AreSoundIn};
-ghost use Rattle.rsc_engine.specs.Features.{has_feature, some_has};
+ghost use Rattle.rsc_engine.specs.NamesLayout.{asked_by, some_ask, AreSoundIn};
 
 use super::Part;
 use super::tree::Tree;
@@ -75,7 +74,7 @@ pub(crate) fn compile(
     requires groups { info.now ≡ map groups_of_pattern patterns.now }
     requires room { size_of_program (map pattern_of patterns.now) ≤ most_states }
     ensures made { IfOk result (λ made. Begins made.0.items made.1 (IsOfSome 0 (map pattern_of patterns.now))
-        × AreSoundIn info.now (some_has (map pattern_of patterns.now)) [] made.0.items made.1 made.0.items
+        × AreSoundIn info.now (some_ask (map pattern_of patterns.now)) [] made.0.items made.1 made.0.items
         × OrdersSome made.0.items (slot_number info.now) (length made.0.items) made.1 0 (map pattern_of patterns.now)) }
     ensures size { IfOk result (λ made. length made.0.items ≡ size_of_program (map pattern_of patterns.now)) }
 {
@@ -111,7 +110,7 @@ impl Compiler {
         requires room { length self.old.list.states.items + size_of (pattern_of whole.now) + 3 ≤ most_states }
         ensures made { IfOk result (λ first. Adds self.old.list.states.items self.new.list.states.items
             (λ states. Begins states first (IsOfOne index (pattern_of whole.now)) × (index < length info.now →
-            AreSoundIn info.now (has_feature (pattern_of whole.now)) self.old.list.states.items self.new.list.states.items first states)
+            AreSoundIn info.now (asked_by (pattern_of whole.now)) self.old.list.states.items self.new.list.states.items first states)
             × OrdersOne states (slot_number info.now index) (length self.new.list.states.items) first index (pattern_of whole.now))) }
         ensures size { OnOk result (length self.new.list.states.items ≡ length self.old.list.states.items + size_of (pattern_of whole.now) + 3) }
     {
@@ -148,11 +147,7 @@ impl Compiler {
         match tree {
             Tree::Empty => Ok(next),
             Tree::Never => self.list.never(next),
-            Tree::Range(start, end) => self.list.add(State::ByteRange {
-                start: *start,
-                end: *end,
-                next,
-            }),
+            Tree::Range(start, end) => self.list.range(*start, *end, next),
             Tree::Class(ranges) => self.list.class(ranges, next),
             Tree::Literal(bytes) => self.list.literal(bytes, next),
             Tree::Assertion(look) => self.list.add(State::Assert { look: *look, next }),
@@ -262,14 +257,25 @@ impl States {
             return self.never(next);
         }
         let last = ranges.len() - 1;
-        let (start, end) = ranges[last];
-        let mut first = self.add(State::ByteRange { start, end, next })?;
+        let mut first = self.range(ranges[last].0, ranges[last].1, next)?;
         for index in (0..last).rev() {
-            let (start, end) = ranges[index];
-            let one = self.add(State::ByteRange { start, end, next })?;
+            let one = self.range(ranges[index].0, ranges[index].1, next)?;
             first = self.fork(one, first)?;
         }
         Ok(first)
+    }
+
+    // No byte is of a range whose first byte is above its last.
+    fn range(&mut self, start: u8, end: u8, next: StateID) -> Result<StateID, AllocError>
+        requires { length self.old.states.items < most_states }
+        ensures builds { IfOk result (λ first. (slots : ℕ × ℕ) →
+            Builds slots self.old.states.items self.new.states.items first next (Class ((start, end) ∷ []))) }
+        ensures size { OnOk result (length self.new.states.items ≡ length self.old.states.items + 1) }
+    {
+        if end < start {
+            return self.never(next);
+        }
+        self.add(State::ByteRange { start, end, next })
     }
 
     fn literal(&mut self, bytes: &[u8], next: StateID) -> Result<StateID, AllocError>
@@ -288,7 +294,7 @@ impl States {
         Ok(first)
     }
 
-    /// A state that leads to two, preferably to the first.
+    /// A state that leads to two, of which the first is preferred.
     pub(crate) fn fork(&mut self, a: StateID, b: StateID) -> Result<StateID, AllocError>
         requires { length self.old.states.items < most_states }
         ensures { IfOk result (IsAdded self.old.states.items self.new.states.items (Fork a b)) }

@@ -208,7 +208,7 @@ impl Compiler {
     }
 }
 
-// A state that leads to the part or to what comes next: preferably to the part, if it is greedy.
+// A state that leads to the part or to what comes next. If it is greedy, the part is preferred.
 fn choice(is_greedy: bool, part: StateID, next: StateID) -> State
     ensures { result ≡ choice_of is_greedy part next }
 {

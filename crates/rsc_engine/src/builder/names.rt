@@ -2,7 +2,7 @@
 ghost use Rattle.std.specs.Prelude.{◌≡◌, ◌*◌, ◌≤◌, ◌⊎◌, ◌++◌, map, IfOk, IfErr, OnOk};
 ghost use Rattle.rsc_primitives.specs.Indices.{max_index};
 ghost use Rattle.rsc_captures.specs.Groups.{all_groups};
-ghost use Rattle.rsc_engine.specs.declared.error.Error.TheVariants.{OutOfMemory, Names};
+ghost use Rattle.rsc_engine.specs.declared.error.Error.TheVariants.{OutOfMemory, RepeatedName};
 ghost use Rattle.rsc_engine.specs.Refusals.{RepeatsName, error_of};
 ghost use Rattle.rsc_engine.specs.Parts.{groups_of_pattern};
 
@@ -28,7 +28,7 @@ pub(crate) fn info_of(alloc: Global, patterns: &[Part<'_>]) -> Result<GroupInfo,
     requires { 2 * all_groups (map groups_of_pattern patterns.now) ≤ max_index }
     ensures groups { IfOk result (λ info. info ≡ map groups_of_pattern patterns.now) }
     ensures names { OnOk result (¬ (RepeatsName (map groups_of_pattern patterns.now))) }
-    ensures refused { IfErr result (λ e. (e ≡ OutOfMemory) ⊎ ((e ≡ Names) × RepeatsName (map groups_of_pattern patterns.now))) }
+    ensures refused { IfErr result (λ e. (e ≡ OutOfMemory) ⊎ ((e ≡ RepeatedName) × RepeatsName (map groups_of_pattern patterns.now))) }
 {
     let mut all = Vec::new(alloc);
     for part in patterns {
@@ -53,7 +53,7 @@ fn refusal_of(fault: &GroupInfoError) -> Error
 {
     match fault.kind() {
         GroupInfoErrorKind::OutOfMemory => Error::OutOfMemory,
-        GroupInfoErrorKind::Duplicate { .. } => Error::Names,
+        GroupInfoErrorKind::Duplicate { .. } => Error::RepeatedName,
         // The last two don't come, since `info_of` begins each pattern with a group that has no name.
         GroupInfoErrorKind::TooManyPatterns { .. }
         | GroupInfoErrorKind::TooManyGroups { .. }

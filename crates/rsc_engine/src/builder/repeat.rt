@@ -9,7 +9,11 @@ use super::{Builder, Part};
 use crate::Error;
 
 impl<'n> Builder<'n> {
-    /// The part or nothing, preferably the part.
+    /// The part once or not at all, greedy: once is preferred.
+    ///
+    /// # Errors
+    ///
+    /// Out of memory.
     pub fn optional(&self, part: Part<'n>) -> Result<Part<'n>, Error>
         ensures part { IfOk result (λ whole. pattern_of whole ≡ Repeat 0 (Some 1) true (pattern_of part.entry)) }
         ensures groups { IfOk result (λ whole. groups_of_part whole ≡ groups_of_part part.entry) }
@@ -18,7 +22,11 @@ impl<'n> Builder<'n> {
         self.times(part, 0, Some(1), true)
     }
 
-    /// The part or nothing, preferably nothing.
+    /// The part once or not at all, lazy: not at all is preferred.
+    ///
+    /// # Errors
+    ///
+    /// Out of memory.
     pub fn optional_lazy(&self, part: Part<'n>) -> Result<Part<'n>, Error>
         ensures part { IfOk result (λ whole. pattern_of whole ≡ Repeat 0 (Some 1) false (pattern_of part.entry)) }
         ensures groups { IfOk result (λ whole. groups_of_part whole ≡ groups_of_part part.entry) }
@@ -27,7 +35,11 @@ impl<'n> Builder<'n> {
         self.times(part, 0, Some(1), false)
     }
 
-    /// The part any number of times, preferably often. Of a part that may match no byte it is `(part+)?`, as in the original.
+    /// The part any number of times, greedy: once more is preferred. Of a part that may match no byte it is `(part+)?`, as in the original.
+    ///
+    /// # Errors
+    ///
+    /// Out of memory.
     pub fn star(&self, part: Part<'n>) -> Result<Part<'n>, Error>
         ensures part { IfOk result (λ whole. pattern_of whole ≡ Repeat 0 None true (pattern_of part.entry)) }
         ensures groups { IfOk result (λ whole. groups_of_part whole ≡ groups_of_part part.entry) }
@@ -36,7 +48,11 @@ impl<'n> Builder<'n> {
         self.times(part, 0, None, true)
     }
 
-    /// The part any number of times, preferably seldom.
+    /// The part any number of times, lazy: once less is preferred.
+    ///
+    /// # Errors
+    ///
+    /// Out of memory.
     pub fn star_lazy(&self, part: Part<'n>) -> Result<Part<'n>, Error>
         ensures part { IfOk result (λ whole. pattern_of whole ≡ Repeat 0 None false (pattern_of part.entry)) }
         ensures groups { IfOk result (λ whole. groups_of_part whole ≡ groups_of_part part.entry) }
@@ -45,7 +61,11 @@ impl<'n> Builder<'n> {
         self.times(part, 0, None, false)
     }
 
-    /// The part once or more, preferably often.
+    /// The part once or more, greedy: once more is preferred.
+    ///
+    /// # Errors
+    ///
+    /// Out of memory.
     pub fn plus(&self, part: Part<'n>) -> Result<Part<'n>, Error>
         ensures part { IfOk result (λ whole. pattern_of whole ≡ Repeat 1 None true (pattern_of part.entry)) }
         ensures groups { IfOk result (λ whole. groups_of_part whole ≡ groups_of_part part.entry) }
@@ -54,7 +74,11 @@ impl<'n> Builder<'n> {
         self.times(part, 1, None, true)
     }
 
-    /// The part once or more, preferably seldom.
+    /// The part once or more, lazy: once less is preferred.
+    ///
+    /// # Errors
+    ///
+    /// Out of memory.
     pub fn plus_lazy(&self, part: Part<'n>) -> Result<Part<'n>, Error>
         ensures part { IfOk result (λ whole. pattern_of whole ≡ Repeat 1 None false (pattern_of part.entry)) }
         ensures groups { IfOk result (λ whole. groups_of_part whole ≡ groups_of_part part.entry) }
@@ -63,8 +87,12 @@ impl<'n> Builder<'n> {
         self.times(part, 1, None, false)
     }
 
-    /// The part from `min` to `max` times, without a limit if `max` is `None`, preferably often. Its groups are the same each time. With a
+    /// The part from `min` to `max` times, without a limit if `max` is `None`, greedy: once more is preferred. Its groups are the same each time. With a
     /// `max` below `min` it is `min` times.
+    ///
+    /// # Errors
+    ///
+    /// Out of memory.
     pub fn repeat(&self, part: Part<'n>, min: usize, max: Option<usize>) -> Result<Part<'n>, Error>
         ensures part { IfOk result (λ whole. pattern_of whole ≡ Repeat min max true (pattern_of part.entry)) }
         ensures groups { IfOk result (λ whole. groups_of_part whole ≡ groups_of_part part.entry) }
@@ -73,7 +101,12 @@ impl<'n> Builder<'n> {
         self.times(part, min, max, true)
     }
 
-    /// The same, preferably seldom.
+    /// The part from `min` to `max` times, without a limit if `max` is `None`, lazy: once less is preferred. Its groups are the same each time. With a
+    /// `max` below `min` it is `min` times.
+    ///
+    /// # Errors
+    ///
+    /// Out of memory.
     pub fn repeat_lazy(
         &self,
         part: Part<'n>,

@@ -42,7 +42,7 @@ pub(crate) struct Times {
     pub(crate) min: usize,
     /// At most this often, or without a limit. It is `min` if it is below that.
     pub(crate) max: Option<usize>,
-    /// Preferably often.
+    /// Once more is preferred, not once less.
     pub(crate) is_greedy: bool,
 }
 

@@ -54,7 +54,7 @@ impl<'p, 'h, W: WordClass + AsciiWordClass> Ahead<'p, 'h, W> {
     ) -> Result<Ahead<'p, 'h, W>, Error>
         requires { input.now.span.start ≤ input.now.span.end }
         ensures made { IfOk result (λ a. search_in W.word_chars a.program a.input ≡ search_in W.word_chars program.now input.now) }
-        ensures memory { IfErr result (λ e. e ≡ OutOfMemory) }
+        ensures refused { IfErr result (λ e. e ≡ OutOfMemory) }
     {
         if program.len() > MOST_NUMBERED {
             // Only states that have numbers are gone back through.
@@ -81,7 +81,7 @@ impl<'p, 'h, W: WordClass + AsciiWordClass> Ahead<'p, 'h, W> {
         captures: &mut Captures,
     ) -> Result<Option<Match>, Error>
         requires { self.old.input.span.start ≤ from }
-        ensures same { self.new ≡ self.old }
+        ensures kept { self.new ≡ self.old }
         ensures found { IfOk result (λ found. IfSome found
             (IsFirstMatch (start_at (search_in W.word_chars self.old.program self.old.input) from) captures.new)) }
         ensures none { IfOk result (λ found. IfNone found (HasNone (start_at (search_in W.word_chars self.old.program self.old.input) from))) }
@@ -92,7 +92,7 @@ impl<'p, 'h, W: WordClass + AsciiWordClass> Ahead<'p, 'h, W> {
         ensures slots { length captures.new.offsets ≡ length captures.old.offsets }
         ensures unset { IfOk result (λ found. IfNone found (IsCleared captures.old captures.new)) }
         ensures failed { OnErr result (IsCleared captures.old captures.new) }
-        ensures memory { IfErr result (λ e. e ≡ OutOfMemory) }
+        ensures refused { IfErr result (λ e. e ≡ OutOfMemory) }
     {
         captures.clear();
         let Some(start) = self.next_begin(from) else {
@@ -170,7 +170,7 @@ fn match_at<W: WordClass>(
     ensures groups { captures.new.groups ≡ captures.old.groups }
     ensures slots { length captures.new.offsets ≡ length captures.old.offsets }
     ensures failed { OnErr result (IsCleared captures.old captures.new) }
-    ensures memory { IfErr result (λ e. e ≡ OutOfMemory) }
+    ensures refused { IfErr result (λ e. e ≡ OutOfMemory) }
 {
     let recorded = record_along(
         walk,

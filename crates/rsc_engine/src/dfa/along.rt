@@ -63,7 +63,7 @@ pub(crate) fn match_along<W: WordClass>(
     ensures groups { captures.new.groups ≡ captures.old.groups }
     ensures slots { length captures.new.offsets ≡ length captures.old.offsets }
     ensures failed { OnErr result (IsCleared captures.old captures.new) }
-    ensures memory { IfErr result (λ e. e ≡ OutOfMemory) }
+    ensures refused { IfErr result (λ e. e ≡ OutOfMemory) }
 {
     if is_whole(plan.program, captures) {
         return match_whole(plan, table, log, input, pattern, end, captures);
@@ -112,7 +112,7 @@ pub(crate) fn record_along<W: WordClass>(
     requires quiet { AreQuiet program.now.automaton.states loud.now }
     requires empty { AreEmpty slots.old }
     ensures recorded { IfOk result (λ r. IsRecorded (search_in W.word_chars program.now input.now) start r.0 r.1 slots.new) }
-    ensures memory { IfErr result (λ e. e ≡ OutOfMemory) }
+    ensures refused { IfErr result (λ e. e ≡ OutOfMemory) }
 {
     // For the prover: positions up to the input's end, plus one, fit.
     let end = input.end();
@@ -176,7 +176,7 @@ impl Walk {
     // Memory for that many states.
     fn open(&mut self, count: usize) -> Result<(), Error>
         ensures len { OnOk result (length self.new.seen.items ≡ count) }
-        ensures memory { IfErr result (λ e. e ≡ OutOfMemory) }
+        ensures refused { IfErr result (λ e. e ≡ OutOfMemory) }
     {
         if self.seen.len() == count {
             return Ok(());
@@ -188,7 +188,7 @@ impl Walk {
     fn renew(&mut self, count: usize) -> Result<(), Error>
         ensures len { OnOk result (length self.new.seen.items ≡ count) }
         ensures stamp { OnOk result (self.new.stamp ≡ 0) }
-        ensures memory { IfErr result (λ e. e ≡ OutOfMemory) }
+        ensures refused { IfErr result (λ e. e ≡ OutOfMemory) }
     {
         self.seen = vec![in self.alloc; 0usize; count]?;
         self.stamp = 0;
@@ -199,7 +199,7 @@ impl Walk {
     fn take_stamp(&mut self) -> Result<(), Error>
         ensures len { OnOk result (length self.new.seen.items ≡ length self.old.seen.items) }
         ensures unseen { OnOk result (AreBelow self.new.stamp self.new.seen.items) }
-        ensures memory { IfErr result (λ e. e ≡ OutOfMemory) }
+        ensures refused { IfErr result (λ e. e ≡ OutOfMemory) }
     {
         if self.stamp == usize::MAX {
             let count = self.seen.len();
@@ -229,7 +229,7 @@ impl Walk {
             → Lists (λ s. ArrivesOver (search_in W.word_chars program.now input.now) s at) list.now
             → IsLed (search_in W.word_chars program.now input.now) from sid at slots.old
             → LeadsAlong (search_in W.word_chars program.now input.now) from at r.0 r.1 slots.new) }
-        ensures memory { IfErr result (λ e. e ≡ OutOfMemory) }
+        ensures refused { IfErr result (λ e. e ≡ OutOfMemory) }
     {
         // For the prover: positions up to the input's end, plus one, fit.
         let _end = input.end();

@@ -3,13 +3,13 @@
 //! At each position it has the states from which a step over the byte leads to where a match is reached, in the part of the span up to that end: none at the
 //! end, and the others come from the position after them. A state that leads with no byte to one of these arrives too, and so does a match itself. So does the
 //! start state wherever a match begins; and the least of these positions is where the leftmost-first match does.
-ghost use Rattle.std.specs.Prelude.{◌≡◌, ◌≤◌, ◌++◌, ◌∷◌, [], IfOk, IfErr, OnOk, true, false, length};
+ghost use Rattle.std.specs.Prelude.{◌≡◌, ◌+◌, ◌≤◌, ◌++◌, ◌∷◌, [], IfOk, IfErr, OnOk, true, false, length};
 ghost use Rattle.rsc_primitives.specs.Indices.{max_index};
 ghost use Rattle.rsc_engine.specs.Searches.{search_in};
 ghost use Rattle.rsc_engine.specs.RowsLayout.{machine, IsPlan};
 ghost use Rattle.rsc_engine.specs.PassTableLayout.{IsPassTable};
 ghost use Rattle.rsc_engine.specs.OrderedLayout.{IsEndOf};
-ghost use Rattle.rsc_engine.specs.ForwardLayout.{up_to};
+ghost use Rattle.rsc_engine.specs.ForwardLayout.{search_up_to};
 ghost use Rattle.rsc_engine.specs.BackwardLayout.{IsStartOf};
 ghost use Rattle.rsc_engine.specs.LogLayout.{IsLogged, IsLoggedFirst};
 ghost use Rattle.rsc_engine.specs.declared.error.Error.TheVariants.{OutOfMemory};
@@ -41,8 +41,8 @@ pub(crate) fn first_start<W: WordClass>(
         table.new.rows.items table.new.leads.items table.new.beyond.items }
     ensures start { IfOk result (IsStartOf (search_in W.word_chars plan.now.program.now input.now) pattern end) }
     ensures log { IfOk result (λ at.
-        IsLogged (up_to (search_in W.word_chars plan.now.program.now input.now) end) at table.new.rows.items log.new.items) }
-    ensures memory { IfErr result (λ e. e ≡ OutOfMemory) }
+        IsLogged (search_up_to (search_in W.word_chars plan.now.program.now input.now) end) at table.new.rows.items log.new.items) }
+    ensures refused { IfErr result (λ e. e ≡ OutOfMemory) }
 {
     let part = part_of(input, end);
     go_back(plan, table, &part, false, log)
@@ -60,6 +60,23 @@ pub(crate) fn part_of<'h>(input: &Input<'h>, end: usize) -> Input<'h>
     let span = Span {
         start: input.start(),
         end,
+    };
+    Input::new(input.haystack())
+        .anchored(input.get_anchored())
+        .span(span)
+}
+
+/// The input from another start of its span on.
+pub(crate) fn part_from<'h>(input: &Input<'h>, start: usize) -> Input<'h>
+    requires { start ≤ input.now.span.end + 1 }
+    ensures haystack { result.haystack ≡ input.now.haystack }
+    ensures start { result.span.start ≡ start }
+    ensures end { result.span.end ≡ input.now.span.end }
+    ensures anchored { result.anchored ≡ input.now.anchored }
+{
+    let span = Span {
+        start,
+        end: input.end(),
     };
     Input::new(input.haystack())
         .anchored(input.get_anchored())
@@ -87,7 +104,7 @@ pub(crate) fn go_back<W: WordClass>(
         IsLoggedFirst (search_in W.word_chars plan.now.program.now input.now) at table.new.rows.items log.new.items) }
     ensures whole { all ≡ true → IfOk result (λ _.
         IsLogged (search_in W.word_chars plan.now.program.now input.now) input.now.span.start table.new.rows.items log.new.items) }
-    ensures memory { IfErr result (λ e. e ≡ OutOfMemory) }
+    ensures refused { IfErr result (λ e. e ≡ OutOfMemory) }
 {
     let start = input.start();
     let end = input.end();
@@ -118,7 +135,7 @@ pub(crate) fn go_back<W: WordClass>(
 #[inline(always)]
 pub(crate) fn add_to_log(log: &mut Vec<u32>, row: usize) -> Result<(), Error>
     ensures adds { OnOk result (log.new.items ≡ log.old.items ++ row ∷ []) }
-    ensures memory { IfErr result (λ e. e ≡ OutOfMemory) }
+    ensures refused { IfErr result (λ e. e ≡ OutOfMemory) }
 {
     // No table has as many rows as have no such number.
     let Ok(row) = u32::try_from(row) else {

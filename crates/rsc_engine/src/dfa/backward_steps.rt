@@ -45,7 +45,7 @@ impl PassTable {
         ensures row { IfOk result (λ r. r.0 < length self.now.rows.items) }
         ensures further { IfOk result (λ r. r.1 ≤ at) }
         ensures start { IfOk result (λ r. input.now.span.start ≤ r.1) }
-        ensures memory { IfErr result (λ e. e ≡ OutOfMemory) }
+        ensures refused { IfErr result (λ e. e ≡ OutOfMemory) }
     {
         steps_are_lawful();
         let haystack = input.haystack();
@@ -120,7 +120,7 @@ impl PassTable {
         ensures on { IfOk result (λ r.
             StandsBackward (search_in W.word_chars plan.now.program.now input.now) plan.now.classes self.new.rows.items r.0 at r.1) }
         ensures kept { IfOk result (λ _. length self.old.rows.items < plan.now.most_rows → IsPassGrown self.old.rows.items self.new.rows.items) }
-        ensures memory { IfErr result (λ e. e ≡ OutOfMemory) }
+        ensures refused { IfErr result (λ e. e ≡ OutOfMemory) }
     {
         let next = self.row_before(plan, input, row, at)?;
         Ok((next, self.least_with(next, at, least)))
@@ -147,7 +147,7 @@ impl PassTable {
         ensures goes { IfOk result (GoesBackward (search_in W.word_chars plan.now.program.now input.now) plan.now.classes
             self.old.rows.items self.new.rows.items row at) }
         ensures kept { IfOk result (λ _. length self.old.rows.items < plan.now.most_rows → IsPassGrown self.old.rows.items self.new.rows.items) }
-        ensures memory { IfErr result (λ e. e ≡ OutOfMemory) }
+        ensures refused { IfErr result (λ e. e ≡ OutOfMemory) }
     {
         steps_are_lawful();
         let unit = before_of(input.haystack(), at);

@@ -34,7 +34,7 @@ impl PassTable {
             self.new.rows.items self.new.leads.items self.new.beyond.items }
         ensures row { IfOk result (λ row. IsPassRow plan.now.classes self.new.rows.items row false mode.now begins None before
             (plan.now.program.now.start ∷ [])) }
-        ensures memory { IfErr result (λ e. e ≡ OutOfMemory) }
+        ensures refused { IfErr result (λ e. e ≡ OutOfMemory) }
     {
         let start = [plan.program.start()];
         self.begin_row(plan, false, mode, begins, before, &start)
@@ -54,7 +54,7 @@ impl PassTable {
         ensures exact { IsPassTable (machine W.word_chars plan.now.program.now) plan.now.classes plan.now.width plan.now.most_rows
             self.new.rows.items self.new.leads.items self.new.beyond.items }
         ensures row { IfOk result (λ row. IsPassRow plan.now.classes self.new.rows.items row true mode.now false None after []) }
-        ensures memory { IfErr result (λ e. e ≡ OutOfMemory) }
+        ensures refused { IfErr result (λ e. e ≡ OutOfMemory) }
     {
         self.begin_row(plan, true, mode, false, after, &[])
     }
@@ -77,7 +77,7 @@ impl PassTable {
         ensures exact { IsPassTable (machine W.word_chars plan.now.program.now) plan.now.classes plan.now.width plan.now.most_rows
             self.new.rows.items self.new.leads.items self.new.beyond.items }
         ensures row { IfOk result (λ row. IsPassRow plan.now.classes self.new.rows.items row backward mode.now begins None read list.now) }
-        ensures memory { IfErr result (λ e. e ≡ OutOfMemory) }
+        ensures refused { IfErr result (λ e. e ≡ OutOfMemory) }
     {
         let column = plan.column(read) % 256;
         let index = if backward { column + 256 } else { column };
@@ -139,7 +139,7 @@ impl PassTable {
 // The list of these states.
 fn list_of(alloc: Global, list: &[StateID]) -> Result<Vec<StateID>, Error>
     ensures same { IfOk result (λ made. made.items ≡ list.now) }
-    ensures memory { IfErr result (λ e. e ≡ OutOfMemory) }
+    ensures refused { IfErr result (λ e. e ≡ OutOfMemory) }
 {
     Ok(list.iter().copied().collect(alloc)?)
 }

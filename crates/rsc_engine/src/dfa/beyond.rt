@@ -51,7 +51,7 @@ impl PassTable {
         ensures step { IfOk result (IsBeyondAt (machine W.word_chars plan.now.program.now) plan.now.classes
             self.old.rows.items self.new.rows.items row haystack.now at) }
         ensures kept { IfOk result (λ _. length self.old.rows.items < plan.now.most_rows → IsPassGrown self.old.rows.items self.new.rows.items) }
-        ensures memory { IfErr result (λ e. e ≡ OutOfMemory) }
+        ensures refused { IfErr result (λ e. e ≡ OutOfMemory) }
     {
         let looks = plan.program.nfa().matcher().holding(haystack, at);
         let unit = unit_at(self.rows[row].backward, haystack, at);
@@ -102,7 +102,7 @@ impl PassTable {
         ensures step { IfOk result (IsBeyondTo (machine W.word_chars plan.now.program.now) plan.now.classes
             self.old.rows.items self.new.rows.items row unit looks) }
         ensures kept { IfOk result (λ _. length self.old.rows.items < plan.now.most_rows → IsPassGrown self.old.rows.items self.new.rows.items) }
-        ensures memory { IfErr result (λ e. e ≡ OutOfMemory) }
+        ensures refused { IfErr result (λ e. e ≡ OutOfMemory) }
     {
         let from = &self.rows[row];
         let backward = from.backward;
@@ -136,7 +136,7 @@ impl PassTable {
             → IsBeyondStep m classes self.old.rows.items step
             → IsPassTable m classes width most self.new.rows.items self.new.leads.items self.new.beyond.items }
         ensures rows { self.new.rows.items ≡ self.old.rows.items }
-        ensures memory { IfErr result (λ e. e ≡ OutOfMemory) }
+        ensures refused { IfErr result (λ e. e ≡ OutOfMemory) }
     {
         fill(&mut self.beyond)?;
         let index = index_of(step.row, step.unit, step.looks);
@@ -149,7 +149,7 @@ impl PassTable {
 fn fill(steps: &mut Vec<Option<BeyondStep>>) -> Result<(), Error>
     ensures same { (i : ℕ) → slice_index_or steps.new.items i None ≡ slice_index_or steps.old.items i None }
     ensures room { OnOk result (KEPT ≤ length steps.new.items) }
-    ensures memory { IfErr result (λ e. e ≡ OutOfMemory) }
+    ensures refused { IfErr result (λ e. e ≡ OutOfMemory) }
 {
     'places: while steps.len() < KEPT {
         steps.push(None)?;
@@ -157,7 +157,7 @@ fn fill(steps: &mut Vec<Option<BeyondStep>>) -> Result<(), Error>
     Ok(())
 }
 
-// A step's number. Few of those that a text asks have the same one.
+// A step's number. Few of the steps that a text asks share one.
 fn index_of(row: usize, unit: Option<u8>, looks: LookSet) -> usize
     ensures { result < KEPT }
 {
@@ -171,7 +171,7 @@ fn index_of(row: usize, unit: Option<u8>, looks: LookSet) -> usize
 // The unit that a pass reads at a position: forward the byte after it, backward the one before it.
 fn unit_at(backward: bool, haystack: &[u8], at: usize) -> Option<u8>
     requires { at ≤ length haystack.now }
-    ensures unit { result ≡ unit_at backward haystack.now at }
+    ensures value { result ≡ unit_at backward haystack.now at }
     ensures byte { IfSome result (λ b. b < 256) }
 {
     if backward {
@@ -195,7 +195,7 @@ pub(crate) fn step_at<W: WordClass>(
     ensures step { IfOk result (λ r. IsPassStepAt (machine W.word_chars program.now) from.now.mode from.now.backward haystack.now at from.now.begins
         from.now.list.items r.0 r.1 r.2.items) }
     ensures states { IfOk result (λ r. AreStates (length program.now.automaton.states) r.2.items) }
-    ensures memory { IfErr result (λ e. e ≡ OutOfMemory) }
+    ensures refused { IfErr result (λ e. e ≡ OutOfMemory) }
 {
     let input = Input::new(haystack).anchored(from.mode);
     let list = from.list.as_slice();

@@ -50,7 +50,7 @@ pub(crate) fn widen(leads: &mut Vec<Lead>, len: usize) -> Result<(), Error>
     ensures same { (i : ℕ) → slice_index_or leads.new.items i Unknown ≡ slice_index_or leads.old.items i Unknown }
     ensures longer { length leads.old.items ≤ length leads.new.items }
     ensures room { OnOk result (len ≤ length leads.new.items) }
-    ensures memory { IfErr result (λ e. e ≡ OutOfMemory) }
+    ensures refused { IfErr result (λ e. e ≡ OutOfMemory) }
 {
     'entries: while leads.len() < len {
         leads.push(Lead::Unknown)?;
@@ -66,7 +66,7 @@ pub(crate) fn key_of(
     before: Option<u8>,
     set: &[StateID],
 ) -> Result<Vec<u32>, Error>
-    ensures memory { IfErr result (λ e. e ≡ OutOfMemory) }
+    ensures refused { IfErr result (λ e. e ≡ OutOfMemory) }
 {
     let mut key = Vec::with_capacity(alloc, set.len())?;
     key.push(match mode {

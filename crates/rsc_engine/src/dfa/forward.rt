@@ -36,7 +36,7 @@ pub(crate) fn first_end<W: WordClass>(
     ensures found { earliest ≡ false → IfOk result (λ r. IfSome r.0 (λ f. IsEndOf (search_in W.word_chars plan.now.program.now input.now) f.0 f.1)) }
     ensures earliest { earliest ≡ true → IfOk result (λ r. IfSome r.0 (λ f. IsEarliestEnd (search_in W.word_chars plan.now.program.now input.now) f.1)) }
     ensures none { IfOk result (λ r. IfNone r.0 (HasNone (search_in W.word_chars plan.now.program.now input.now))) }
-    ensures memory { IfErr result (λ e. e ≡ OutOfMemory) }
+    ensures refused { IfErr result (λ e. e ≡ OutOfMemory) }
 {
     let start = input.start();
     let end = input.end();

@@ -5,7 +5,7 @@ ghost use Rattle.rsc_engine.specs.declared.error.Error.TheVariants.{OutOfMemory}
 ghost use Rattle.rsc_engine.specs.Searches.{search_in};
 ghost use Rattle.rsc_engine.specs.RowsLayout.{machine, IsPlan};
 ghost use Rattle.rsc_engine.specs.PassTableLayout.{IsPassTable};
-ghost use Rattle.rsc_engine.specs.ForwardLayout.{StandsInEach, GoesInEach, pattern_in, last_with};
+ghost use Rattle.rsc_engine.specs.ForwardLayout.{StandsInEach, GoesInEach, found_in, last_with};
 ghost use Rattle.rsc_engine.specs.declared.dfa.pass_table.PassRow.{PassRow};
 
 use super::entries::Lead;
@@ -66,8 +66,8 @@ impl PassTable {
     /// Whether a look that leads to the row finds a match.
     #[inline(always)]
     pub(crate) fn has_found(&self, row: usize) -> bool
-        ensures some { result ≡ true → ¬ (pattern_in (slice_get self.now.rows.items row) ≡ None) }
-        ensures none { result ≡ false → pattern_in (slice_get self.now.rows.items row) ≡ None }
+        ensures some { result ≡ true → ¬ (found_in (slice_get self.now.rows.items row) ≡ None) }
+        ensures none { result ≡ false → found_in (slice_get self.now.rows.items row) ≡ None }
     {
         if row >= self.rows.len() {
             return false;
@@ -86,7 +86,7 @@ impl PassTable {
         at: usize,
         last: Option<(PatternID, usize)>,
     ) -> Option<(PatternID, usize)>
-        ensures { result ≡ last_with (pattern_in (slice_get self.now.rows.items row)) at last }
+        ensures { result ≡ last_with (found_in (slice_get self.now.rows.items row)) at last }
     {
         if row >= self.rows.len() {
             return last;
@@ -128,8 +128,8 @@ impl PassTable {
             self.new.rows.items self.new.leads.items self.new.beyond.items }
         ensures on { IfOk result (λ r.
             StandsInEach (search_in W.word_chars plan.now.program.now input.now) plan.now.classes self.new.rows.items r.0 (at + 1) r.1) }
-        ensures found { IfOk result (λ r. r.1 ≡ last_with (pattern_in (slice_get self.new.rows.items r.0)) at last) }
-        ensures memory { IfErr result (λ e. e ≡ OutOfMemory) }
+        ensures found { IfOk result (λ r. r.1 ≡ last_with (found_in (slice_get self.new.rows.items r.0)) at last) }
+        ensures refused { IfErr result (λ e. e ≡ OutOfMemory) }
     {
         let next = self.next_row(plan, input, row, at)?;
         Ok((next, self.found_with(next, at, last)))
@@ -153,7 +153,7 @@ impl PassTable {
             self.new.rows.items self.new.leads.items self.new.beyond.items }
         ensures goes { IfOk result (GoesInEach (search_in W.word_chars plan.now.program.now input.now) plan.now.classes
             self.old.rows.items self.new.rows.items row at) }
-        ensures memory { IfErr result (λ e. e ≡ OutOfMemory) }
+        ensures refused { IfErr result (λ e. e ≡ OutOfMemory) }
     {
         steps_are_lawful();
         let unit = after_of(input.haystack(), at);

@@ -16,7 +16,7 @@ pub(crate) fn near_of(
     after: Option<u8>,
 ) -> Result<Vec<u8>, Error>
     ensures near { IfOk result (λ near. near.items ≡ around before after) }
-    ensures memory { IfErr result (λ e. e ≡ OutOfMemory) }
+    ensures refused { IfErr result (λ e. e ≡ OutOfMemory) }
 {
     let mut near = Vec::new(alloc);
     if let Some(byte) = before {

@@ -198,9 +198,9 @@ impl Needed {
     }
 }
 
-// Whether a byte is of a range.
+/// Whether a byte is of a range.
 #[inline(always)]
-fn is_in(range: (u8, u8), byte: u8) -> bool
+pub(crate) fn is_in(range: (u8, u8), byte: u8) -> bool
     ensures { result ≡ is_in range byte }
 {
     (range.0 <= byte) & (byte <= range.1)

@@ -100,7 +100,7 @@ pub(crate) fn look<W: WordClass>(
     requires list { AreStates (length program.now.automaton.states) list.now }
     ensures looked { IfOk result (λ r. IsLooked (search_in W.word_chars program.now input.now) at list.now r.0 r.1.items) }
     ensures states { IfOk result (λ r. AreStates (length program.now.automaton.states) r.1.items) }
-    ensures memory { IfErr result (λ e. e ≡ OutOfMemory) }
+    ensures refused { IfErr result (λ e. e ≡ OutOfMemory) }
 {
     let count = program.len();
     let mut seen = vec![in alloc; false; count]?;
@@ -129,7 +129,7 @@ pub(crate) fn look<W: WordClass>(
 // The list from its end on.
 fn reversed(alloc: Global, list: &[StateID]) -> Result<Vec<StateID>, Error>
     ensures reversed { IfOk result (λ stack. stack.items ≡ reverse list.now) }
-    ensures memory { IfErr result (λ e. e ≡ OutOfMemory) }
+    ensures refused { IfErr result (λ e. e ≡ OutOfMemory) }
 {
     Ok(list.iter().rev().copied().collect(alloc)?)
 }
@@ -141,7 +141,7 @@ fn add(sid: StateID, seen: &mut Vec<bool>, list: &mut Vec<StateID>) -> Result<()
     ensures gathers { OnOk result (Gathers seen.new.items list.new.items) }
     ensures len { length seen.new.items ≡ length seen.old.items }
     ensures adds { OnOk result (AddsOne list.old.items sid list.new.items) }
-    ensures memory { IfErr result (λ e. e ≡ OutOfMemory) }
+    ensures refused { IfErr result (λ e. e ≡ OutOfMemory) }
 {
     if !seen[sid.as_usize()] {
         list.push(sid)?;
@@ -165,7 +165,7 @@ pub(crate) fn advance<W: WordClass>(
     requires list { AreStates (length program.now.automaton.states) list.now }
     ensures advanced { IfOk result (λ r. IsAdvanced (search_in W.word_chars program.now input.now) at begins list.now r.0 r.1 r.2.items) }
     ensures states { IfOk result (λ r. AreStates (length program.now.automaton.states) r.2.items) }
-    ensures memory { IfErr result (λ e. e ≡ OutOfMemory) }
+    ensures refused { IfErr result (λ e. e ≡ OutOfMemory) }
 {
     let (found, next) = look(alloc, program, input, at, list)?;
     if found.is_some() || !begins {
@@ -179,7 +179,7 @@ fn with_start<W: WordClass>(program: &Program<W>, list: Vec<StateID>) -> Result<
     requires { AreStates (length program.now.automaton.states) list.items }
     ensures adds { IfOk result (λ next. AddsOne list.items program.now.start next.items) }
     ensures states { IfOk result (λ next. AreStates (length program.now.automaton.states) next.items) }
-    ensures memory { IfErr result (λ e. e ≡ OutOfMemory) }
+    ensures refused { IfErr result (λ e. e ≡ OutOfMemory) }
 {
     let mut next = list;
     let start = program.start();

@@ -59,7 +59,7 @@ pub(crate) fn pass_key(
     classes: &ByteClasses,
     row: &PassRow,
 ) -> Result<Vec<u32>, Error>
-    ensures memory { IfErr result (λ e. e ≡ OutOfMemory) }
+    ensures refused { IfErr result (λ e. e ≡ OutOfMemory) }
 {
     let mut key = key_of(alloc, classes, &row.mode, row.read, row.list.as_slice())?;
     key.push(u32::from(row.begins) + 2 * u32::from(row.backward))?;

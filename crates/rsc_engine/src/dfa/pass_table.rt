@@ -120,7 +120,7 @@ impl PassTable {
         ensures step { IfOk result (IsPassTo (machine W.word_chars plan.now.program.now) plan.now.classes
             self.old.rows.items self.new.rows.items row unit) }
         ensures kept { IfOk result (λ _. length self.old.rows.items < plan.now.most_rows → IsPassGrown self.old.rows.items self.new.rows.items) }
-        ensures memory { IfErr result (λ e. e ≡ OutOfMemory) }
+        ensures refused { IfErr result (λ e. e ≡ OutOfMemory) }
     {
         is_byte(unit);
         let from = &self.rows[row];
@@ -200,7 +200,7 @@ impl PassTable {
             row.found row.read row.list.items) }
         ensures grows { IfOk result (λ made. made.1 ≡ true → IsPassGrown self.old.rows.items self.new.rows.items) }
         ensures kept { IfOk result (λ made. length self.old.rows.items < plan.now.most_rows → made.1 ≡ true) }
-        ensures memory { IfErr result (λ e. e ≡ OutOfMemory) }
+        ensures refused { IfErr result (λ e. e ≡ OutOfMemory) }
     {
         let key = pass_key(self.alloc, &plan.classes, &row)?;
         if let Some(index) = self.known.get(&key).copied() {
@@ -283,7 +283,7 @@ impl PassTable {
         ensures row { IfOk result (λ index. IsPassRow plan.now.classes self.new.rows.items index row.backward row.mode row.begins
             row.found row.read row.list.items) }
         ensures grows { IsPassGrown self.old.rows.items self.new.rows.items }
-        ensures memory { IfErr result (λ e. e ≡ OutOfMemory) }
+        ensures refused { IfErr result (λ e. e ≡ OutOfMemory) }
     {
         is_byte(row.read);
         let index = self.rows.len();
@@ -306,7 +306,7 @@ fn step_beside<W: WordClass>(
     ensures step { IfOk result (λ r. IsPassStep (machine W.word_chars program.now) from.now.mode from.now.backward from.now.read from.now.begins
         from.now.list.items unit r.0 r.1 r.2.items) }
     ensures states { IfOk result (λ r. AreStates (length program.now.automaton.states) r.2.items) }
-    ensures memory { IfErr result (λ e. e ≡ OutOfMemory) }
+    ensures refused { IfErr result (λ e. e ≡ OutOfMemory) }
 {
     if from.backward {
         let near = near_of(alloc, unit, from.read)?;

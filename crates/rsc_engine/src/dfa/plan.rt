@@ -57,7 +57,7 @@ impl<'p, W: WordClass> Plan<'p, W> {
     #[inline(always)]
     pub(crate) fn column(&self, unit: Option<u8>) -> usize
         requires { IsPlan (machine W.word_chars self.now.program.now) self.now.classes self.now.width self.now.unicode }
-        ensures column { result ≡ column self.now.classes unit }
+        ensures value { result ≡ column self.now.classes unit }
         ensures within { result < self.now.width }
     {
         match unit {
@@ -93,7 +93,7 @@ fn past_ascii(wanted: bool) -> ByteClassSet
 /// The byte before a position.
 pub(crate) fn before_of(haystack: &[u8], at: usize) -> Option<u8>
     requires { at ≤ length haystack.now }
-    ensures before { result ≡ byte_before haystack.now at }
+    ensures value { result ≡ byte_before haystack.now at }
     ensures byte { IfSome result (λ b. b < 256) }
 {
     if at == 0 {
@@ -105,7 +105,7 @@ pub(crate) fn before_of(haystack: &[u8], at: usize) -> Option<u8>
 
 /// The byte after a position.
 pub(crate) fn after_of(haystack: &[u8], at: usize) -> Option<u8>
-    ensures after { result ≡ byte_after haystack.now at }
+    ensures value { result ≡ byte_after haystack.now at }
     ensures byte { IfSome result (λ b. b < 256) }
 {
     if at < haystack.len() {

@@ -21,7 +21,7 @@ pub(crate) fn loud_states<W: WordClass>(
 ) -> Result<Vec<bool>, Error>
     requires numbered { length program.now.automaton.states ≤ max_index }
     ensures quiet { IfOk result (λ loud. AreQuiet program.now.automaton.states loud.items) }
-    ensures memory { IfErr result (λ e. e ≡ OutOfMemory) }
+    ensures refused { IfErr result (λ e. e ≡ OutOfMemory) }
 {
     let mut loud = vec![in alloc; false; program.len()]?;
     'passes: loop {

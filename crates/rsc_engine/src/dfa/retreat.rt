@@ -30,7 +30,7 @@ pub(crate) fn retreat<W: WordClass>(
     requires list { AreStates (length program.now.automaton.states) list.now }
     ensures retreated { IfOk result (λ r. IsRetreated (search_in W.word_chars program.now input.now) at list.now r.0 r.1.items) }
     ensures states { IfOk result (λ r. AreStates (length program.now.automaton.states) r.1.items) }
-    ensures memory { IfErr result (λ e. e ≡ OutOfMemory) }
+    ensures refused { IfErr result (λ e. e ≡ OutOfMemory) }
 {
     let mut marks = marked(alloc, program.len(), list)?;
     close(program, input, at, &mut marks);
@@ -44,7 +44,7 @@ fn marked(alloc: Global, count: usize, list: &[StateID]) -> Result<Vec<bool>, Er
     requires { AreStates count list.now }
     ensures len { IfOk result (λ marks. length marks.items ≡ count) }
     ensures gathers { IfOk result (λ marks. Gathers marks.items list.now) }
-    ensures memory { IfErr result (λ e. e ≡ OutOfMemory) }
+    ensures refused { IfErr result (λ e. e ≡ OutOfMemory) }
 {
     let mut marks = vec![in alloc; false; count]?;
     'list: for sid in list {
@@ -145,7 +145,7 @@ fn sources<W: WordClass>(
     ensures sources { IfOk result (λ list. Lists
         (λ s. (0 < at) × IsSource (machine W.word_chars program.now) input.now.haystack (at - 1) marks.now.items s) list.items) }
     ensures states { IfOk result (λ list. AreStates (length program.now.automaton.states) list.items) }
-    ensures memory { IfErr result (λ e. e ≡ OutOfMemory) }
+    ensures refused { IfErr result (λ e. e ≡ OutOfMemory) }
 {
     let mut list = Vec::new(alloc);
     if at == 0 {

@@ -55,7 +55,7 @@ pub(crate) fn match_whole<W: WordClass>(
     ensures groups { captures.new.groups ≡ captures.old.groups }
     ensures slots { length captures.new.offsets ≡ length captures.old.offsets }
     ensures failed { OnErr result (IsCleared captures.old captures.new) }
-    ensures memory { IfErr result (λ e. e ≡ OutOfMemory) }
+    ensures refused { IfErr result (λ e. e ≡ OutOfMemory) }
 {
     // For the prover: positions up to the input's end, plus one, fit.
     let _end = input.end();
@@ -84,7 +84,7 @@ fn start_of<W: WordClass>(
     ensures exact { IsPassTable (machine W.word_chars plan.now.program.now) plan.now.classes plan.now.width plan.now.most_rows
         table.new.rows.items table.new.leads.items table.new.beyond.items }
     ensures start { IfOk result (IsStartOf (search_in W.word_chars plan.now.program.now input.now) pattern end) }
-    ensures memory { IfErr result (λ e. e ≡ OutOfMemory) }
+    ensures refused { IfErr result (λ e. e ≡ OutOfMemory) }
 {
     if input.get_anchored().is_anchored() {
         return Ok(input.start());

@@ -50,26 +50,30 @@ fn classes_take_one_byte(rt: HostRuntime) -> Result<(), Fail> {
 }
 
 #[test]
-fn refuses_a_class_without_a_range(rt: HostRuntime) -> Result<(), Fail> {
-    let builder = Builder::new(rt.alloc());
-    assert!(rt; matches!(builder.class(&[]), Err(Error::EmptyClass)));
+fn a_class_without_a_byte_never_matches(rt: HostRuntime) -> Result<(), Fail> {
+    let ranges: [&[(u8, u8)]; 4] = [
+        &[],
+        &[(b'b', b'a')],
+        &[(b'z', b'a'), (255, 0)],
+        &[(1, 0), (b'b', b'b'), (b'd', b'c')],
+    ];
+    for index in 0..4 {
+        let builder = Builder::new(rt.alloc());
+        let whole = builder.class(ranges[index])?;
+        let program = builder.build(AsciiWord, false, whole)?;
+        let wanted = if index == 3 { Some((1, 2)) } else { None };
+        assert!(rt; first(rt.alloc(), &program, &Input::new(b"abcd"))? == wanted);
+    }
     Ok(())
 }
 
 #[test]
-fn refuses_a_range_from_a_greater_byte(rt: HostRuntime) -> Result<(), Fail> {
+fn a_range_from_a_greater_byte_has_no_byte(rt: HostRuntime) -> Result<(), Fail> {
     let builder = Builder::new(rt.alloc());
-    let whole = builder.range(b'b', b'a');
-    assert!(rt; matches!(builder.build(AsciiWord, true, whole), Err(Error::Faulty)));
-    Ok(())
-}
-
-#[test]
-fn builds_a_reversed_range_that_is_there_at_most_0_times(rt: HostRuntime) -> Result<(), Fail> {
-    let builder = Builder::new(rt.alloc());
-    let range = builder.range(b'b', b'a');
-    let whole = builder.repeat(range, 0, Some(0))?;
-    assert!(rt; matches!(builder.build(AsciiWord, true, whole), Ok(_)));
+    let reversed = builder.range(b'c', b'a');
+    let either = builder.either(reversed, builder.literal(b"b")?)?;
+    let program = builder.build(AsciiWord, false, either)?;
+    assert!(rt; first(rt.alloc(), &program, &Input::new(b"abc"))? == Some((1, 2)));
     Ok(())
 }
 
@@ -79,7 +83,12 @@ fn refuses_a_name_twice(rt: HostRuntime) -> Result<(), Fail> {
     let one = builder.group(Some("x"), builder.empty())?;
     let other = builder.group(Some("x"), builder.empty())?;
     let whole = builder.then(one, other)?;
-    assert!(rt; matches!(builder.build(AsciiWord, true, whole), Err(Error::Names)));
+    assert!(rt;
+        matches!(
+            builder.build(AsciiWord, true, whole),
+            Err(Error::RepeatedName)
+        )
+    );
     Ok(())
 }
 
@@ -124,7 +133,7 @@ fn a_repeated_part_has_its_groups_once(rt: HostRuntime) -> Result<(), Fail> {
 
 // `^` of lines, by its number: the assertion, after no byte, or in a list of one.
 fn line_start<'n>(alloc: Global, builder: &Builder<'n>, number: usize) -> Result<Part<'n>, Error> {
-    let start = builder.look(Look::StartLF);
+    let start = builder.assertion(Look::StartLF);
     match number {
         0 => Ok(start),
         1 => builder.then(builder.literal(b"")?, start),
@@ -145,7 +154,7 @@ fn repeated_nothing(alloc: Global, number: usize) -> Result<Program<AsciiWord>, 
 // The same with a list of parts.
 fn repeated_list(alloc: Global) -> Result<Program<AsciiWord>, Error> {
     let builder = Builder::new(alloc);
-    let start = builder.look(Look::StartLF);
+    let start = builder.assertion(Look::StartLF);
     let a = builder.literal(b"a")?;
     let list = builder.one_of(vec![in alloc; start, a]?)?;
     let whole = builder.star(list)?;
@@ -311,7 +320,7 @@ fn none_of_no_parts_matches(rt: HostRuntime) -> Result<(), Fail> {
 #[test]
 fn lines_end_where_the_matcher_says(rt: HostRuntime) -> Result<(), Fail> {
     let builder = Builder::new(rt.alloc());
-    let start = builder.look(Look::StartLF);
+    let start = builder.assertion(Look::StartLF);
     let a = builder.literal(b"a")?;
     let whole = builder.then(start, a)?;
     let mut matcher = LookMatcher::new(AsciiWord);

@@ -67,7 +67,7 @@ fn looped(alloc: Global, number: usize) -> Result<Program<AsciiWord>, Error> {
     let last = if number < 6 {
         builder.literal(b"b")?
     } else {
-        builder.look(Look::EndLF)
+        builder.assertion(Look::EndLF)
     };
     let whole = builder.then(group, last)?;
     builder.build(AsciiWord, false, whole)

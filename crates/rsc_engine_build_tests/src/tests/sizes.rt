@@ -15,7 +15,7 @@ fn leaf(builder: &Builder<'static>, number: usize) -> Result<(Part<'static>, usi
             5,
         )),
         4 => Ok((builder.literal(b"abcd")?, 4)),
-        _ => Ok((builder.look(Look::Start), 1)),
+        _ => Ok((builder.assertion(Look::Start), 1)),
     }
 }
 
@@ -111,7 +111,7 @@ fn refuses_a_great_count_at_once(rt: HostRuntime) -> Result<(), Fail> {
 }
 
 // `[b-a](?P<n>a)(?P<n>a)`, or with two names: 7 states
-fn faulty(builder: &Builder<'static>, names: bool) -> Result<Part<'static>, Error> {
+fn named(builder: &Builder<'static>, names: bool) -> Result<Part<'static>, Error> {
     let one = builder.group(Some("n"), builder.range(b'a', b'a'))?;
     let name = if names { "n" } else { "m" };
     let other = builder.group(Some(name), builder.range(b'a', b'a'))?;
@@ -120,18 +120,23 @@ fn faulty(builder: &Builder<'static>, names: bool) -> Result<Part<'static>, Erro
 }
 
 #[test]
-fn too_large_comes_before_names_and_these_before_ranges(rt: HostRuntime) -> Result<(), Fail> {
+fn too_large_comes_before_a_repeated_name(rt: HostRuntime) -> Result<(), Fail> {
     let mut builder = Builder::new(rt.alloc());
     builder.limit_states(9);
-    let whole = faulty(&builder, true)?;
+    let whole = named(&builder, true)?;
     assert!(rt; matches!(builder.build(AsciiWord, true, whole), Err(Error::TooLarge)));
     let mut builder = Builder::new(rt.alloc());
     builder.limit_states(10);
-    let whole = faulty(&builder, true)?;
-    assert!(rt; matches!(builder.build(AsciiWord, true, whole), Err(Error::Names)));
+    let whole = named(&builder, true)?;
+    assert!(rt;
+        matches!(
+            builder.build(AsciiWord, true, whole),
+            Err(Error::RepeatedName)
+        )
+    );
     let builder = Builder::new(rt.alloc());
-    let whole = faulty(&builder, false)?;
-    assert!(rt; matches!(builder.build(AsciiWord, true, whole), Err(Error::Faulty)));
+    let whole = named(&builder, false)?;
+    assert!(rt; matches!(builder.build(AsciiWord, true, whole), Ok(_)));
     Ok(())
 }
 

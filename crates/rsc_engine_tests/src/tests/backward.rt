@@ -48,8 +48,8 @@ fn up_to_a_letter(builder: &Builder<'static>) -> Result<Part<'static>, Error> {
 
 fn word(builder: &Builder<'static>) -> Result<Part<'static>, Error> {
     let letters = builder.plus(builder.range(b'a', b'a'))?;
-    let begun = builder.then(builder.look(Look::WordUnicode), letters)?;
-    builder.then(begun, builder.look(Look::WordUnicode))
+    let begun = builder.then(builder.assertion(Look::WordUnicode), letters)?;
+    builder.then(begun, builder.assertion(Look::WordUnicode))
 }
 
 // Whether the DFA finds what the walk does, with its groups, and in captures of matches alone with its ends.

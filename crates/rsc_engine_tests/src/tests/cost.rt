@@ -93,10 +93,10 @@ fn letters_and_group(alloc: Global) -> Result<Program<AsciiWord>, Error> {
     builder.build(AsciiWord, false, whole)
 }
 
-// `([A-Z])[aceg..w]*`
+// `([A-Z~])[aceg..w]*`: no small range has all bytes with which it begins.
 fn group_and_letters(alloc: Global) -> Result<Program<AsciiWord>, Error> {
     let builder = Builder::new(alloc);
-    let capital = builder.group(None, builder.range(b'A', b'Z'))?;
+    let capital = builder.group(None, builder.class(&[(b'A', b'Z'), (b'~', b'~')])?)?;
     let letters = builder.star(builder.class(&RANGES)?)?;
     let whole = builder.then(capital, letters)?;
     builder.build(AsciiWord, false, whole)
@@ -109,6 +109,20 @@ fn a_long_text_is_read_along_known_rows(rt: HostRuntime) -> Result<(), Fail> {
     let mut dfa = Dfa::new(rt.alloc(), &program, 1000);
     assert!(rt; !dfa.is_match(&Input::new(text.as_slice()))?);
     Ok(())
+#[test]
+fn a_text_without_a_first_byte_is_looked_through(rt: HostRuntime) -> Result<(), Fail> {
+    // `[A-Z]`
+    let builder = Builder::new(rt.alloc());
+    let capital = builder.range(b'A', b'Z');
+    let program = builder.build(AsciiWord, false, capital)?;
+    let text = vec![in rt.alloc(); b' '; 4000000]?;
+    let mut dfa = Dfa::new(rt.alloc(), &program, 1000);
+    for _ in 0..100 {
+        assert!(rt; !dfa.is_match(&Input::new(text.as_slice()))?);
+    }
+    Ok(())
+}
+
 }
 
 // `[a-z]{1,60}`

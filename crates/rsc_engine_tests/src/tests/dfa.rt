@@ -118,7 +118,7 @@ fn goes_on_with_one_row(rt: HostRuntime) -> Result<(), Fail> {
 fn two(alloc: Global) -> Result<Program<AsciiWord>, Error> {
     let mut builder = Builder::new(alloc);
     let letter = builder.literal(b"a")?;
-    let end = builder.look(Look::WordEndAscii);
+    let end = builder.assertion(Look::WordEndAscii);
     let one = builder.then(letter, end)?;
     builder.pattern(one)?;
     let other = builder.literal(b"b")?;

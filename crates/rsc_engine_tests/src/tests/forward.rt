@@ -11,8 +11,8 @@ fn words(alloc: Global) -> Result<Program<UnicodeWord>, Error> {
     let builder = Builder::new(alloc);
     let class = builder.class(&[(b'0', b'9'), (b'a', b'z'), (b'_', b'_'), (0x80, 0xFF)])?;
     let word = builder.plus(class)?;
-    let begun = builder.then(builder.look(Look::WordUnicode), word)?;
-    let whole = builder.then(begun, builder.look(Look::WordUnicode))?;
+    let begun = builder.then(builder.assertion(Look::WordUnicode), word)?;
+    let whole = builder.then(begun, builder.assertion(Look::WordUnicode))?;
     builder.build(UnicodeWord, true, whole)
 }
 

@@ -68,7 +68,7 @@ fn long_or_word(alloc: Global, count: usize) -> Result<Program<UnicodeWord>, Err
     let builder = Builder::new(alloc);
     let text = vec![in alloc; b'b'; count]?;
     let long = builder.literal(text.as_slice())?;
-    let boundary = builder.look(Look::WordUnicode);
+    let boundary = builder.assertion(Look::WordUnicode);
     let word = builder.then(boundary, builder.range(b'a', b'a'))?;
     let whole = builder.either(long, word)?;
     builder.build(UnicodeWord, false, whole)

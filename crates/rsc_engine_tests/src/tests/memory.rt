@@ -17,7 +17,7 @@ fn pages(rt: &HostRuntime) -> Result<usize, Fail> {
 // An `a` beside a word's boundary, for which characters are looked at.
 fn word(alloc: Global) -> Result<Program<UnicodeWord>, Error> {
     let builder = Builder::new(alloc);
-    let boundary = builder.look(Look::WordUnicode);
+    let boundary = builder.assertion(Look::WordUnicode);
     let whole = builder.then(boundary, builder.range(b'a', b'a'))?;
     builder.build(UnicodeWord, false, whole)
 }

@@ -43,15 +43,15 @@ pub fn program_of(alloc: Global, number: usize) -> Result<Program<UnicodeWord>, 
 // `(?m)^[a-z]+$`
 fn line(builder: &Builder<'static>) -> Result<Part<'static>, Error> {
     let letters = builder.plus(builder.range(b'a', b'z'))?;
-    let line = builder.then(builder.look(Look::StartLF), letters)?;
-    builder.then(line, builder.look(Look::EndLF))
+    let line = builder.then(builder.assertion(Look::StartLF), letters)?;
+    builder.then(line, builder.assertion(Look::EndLF))
 }
 
 // `\bé\b`
 fn letter_alone(builder: &Builder<'static>) -> Result<Part<'static>, Error> {
     let letter = builder.literal(b"\xC3\xA9")?;
-    let letter = builder.then(builder.look(Look::WordUnicode), letter)?;
-    builder.then(letter, builder.look(Look::WordUnicode))
+    let letter = builder.then(builder.assertion(Look::WordUnicode), letter)?;
+    builder.then(letter, builder.assertion(Look::WordUnicode))
 }
 
 // `a* b`
@@ -65,22 +65,22 @@ fn letters_and_blank(builder: &Builder<'static>) -> Result<Part<'static>, Error>
 // `b\z`
 fn last_letter(builder: &Builder<'static>) -> Result<Part<'static>, Error> {
     let last = builder.literal(b"b")?;
-    builder.then(last, builder.look(Look::End))
+    builder.then(last, builder.assertion(Look::End))
 }
 
 fn around(builder: &Builder<'static>, look: Look) -> Result<Part<'static>, Error> {
     let before = builder.literal(b"b")?;
-    let before = builder.then(builder.look(look), before)?;
+    let before = builder.then(builder.assertion(look), before)?;
     let between = between(builder, look)?;
     let either = builder.either(before, between)?;
     let after = builder.literal(b"b\n")?;
-    let after = builder.then(after, builder.look(look))?;
+    let after = builder.then(after, builder.assertion(look))?;
     builder.either(either, after)
 }
 
 fn between(builder: &Builder<'static>, look: Look) -> Result<Part<'static>, Error> {
     let first = builder.literal(b"a")?;
-    let first = builder.then(first, builder.look(look))?;
+    let first = builder.then(first, builder.assertion(look))?;
     let last = builder.literal(b"a")?;
     builder.then(first, last)
 }

@@ -31,7 +31,7 @@ impl<W: WordClass> LookMatcher<W> {
     #[inline]
     pub fn holding(&self, haystack: &[u8], at: usize) -> LookSet
         requires { at ≤ length haystack.now }
-        ensures exactly { (look : Look) → (sets.contains result look ≡ true) ↔ HoldsFor W.word_chars look self.now haystack.now at }
+        ensures members { (look : Look) → (sets.contains result look ≡ true) ↔ HoldsFor W.word_chars look self.now haystack.now at }
         ensures subsets { (set : Looks) → ((look : Look) → sets.contains set look ≡ true → sets.contains result look ≡ true) ↔
             ((look : Look) → sets.contains set look ≡ true → HoldsFor W.word_chars look self.now haystack.now at) }
     {

@@ -49,11 +49,11 @@ impl NonMaxUsize {
         Some(NonMaxUsize(value.to_le_bytes()))
     }
 
-    /// The number.
+    /// The number as a `usize`.
     #[inline]
     pub fn get(&self) -> usize
         ensures value { result ≡ self.now }
-        ensures below { result < usize.MAX }
+        ensures most { result < usize.MAX }
     {
         usize::from_le_bytes(self.0)
     }

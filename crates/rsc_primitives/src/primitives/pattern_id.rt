@@ -70,38 +70,38 @@ impl PatternID {
         PatternID(index as u32)
     }
 
-    /// The number.
+    /// The number as a `usize`.
     #[inline]
     pub fn as_usize(&self) -> usize
         ensures value { result ≡ self.now }
-        ensures small { IsIndex result }
+        ensures within { IsIndex result }
     {
         self.0 as usize
     }
 
-    /// The number.
+    /// The number as a `u64`.
     #[inline(always)]
     pub fn as_u64(&self) -> u64
         ensures value { result ≡ self.now }
-        ensures small { IsIndex result }
+        ensures within { IsIndex result }
     {
         u64::from(self.0)
     }
 
-    /// The number.
+    /// The number as a `u32`.
     #[inline]
     pub fn as_u32(&self) -> u32
         ensures value { result ≡ self.now }
-        ensures small { IsIndex result }
+        ensures within { IsIndex result }
     {
         self.0
     }
 
-    /// The number.
+    /// The number as an `i32`.
     #[inline]
     pub fn as_i32(&self) -> i32
         ensures value { result ≡ pos self.now }
-        ensures small { IsIndex self.now }
+        ensures within { IsIndex self.now }
     {
         self.0 as i32
     }
@@ -110,7 +110,7 @@ impl PatternID {
     #[inline]
     pub fn one_more(&self) -> usize
         ensures value { result ≡ self.now + 1 }
-        ensures small { IsIndex self.now }
+        ensures within { IsIndex self.now }
     {
         self.as_usize() + 1
     }
@@ -150,7 +150,7 @@ impl PatternID {
     #[tactic(auto, using(crate::proofs::IndicesLemmas::indices_below))]
     pub fn iter(len: usize) -> PatternIDIter
         requires { len ≤ PatternID.LIMIT }
-        ensures list { result ≡ range_with_len 0 len }
+        ensures value { result ≡ range_with_len 0 len }
         ensures below { All (λ index. index < len) result }
     {
         PatternIDIter { next_index: 0, len }

@@ -78,7 +78,7 @@ impl<'a> Iterator for PatternSetIter<'a> {
     fn size_hint(&self) -> (usize, Option<usize>)
         ensures lower { IsWithinCount result.0 (at_most (length self.now)) }
         ensures upper { IfSome result.1 (UpTo (at_most (length self.now))) }
-        ensures exact { result ≡ (length self.now, Some (length self.now)) }
+        ensures value { result ≡ (length self.now, Some (length self.now)) }
     {
         let left = self.len();
         (left, Some(left))

@@ -57,8 +57,8 @@ fn the_first_group_of_a_match_is_set(rt: HostRuntime) -> Result<(), Fail> {
 fn a_search_asks_the_assertions_of_its_part(rt: HostRuntime) -> Result<(), Fail> {
     let builder = Builder::new(rt.alloc());
     assert!(rt; parts::looks_of(rt.alloc(), AsciiWord, builder.literal(b"abc")?)?.is_empty());
-    let line = builder.then(builder.look(Look::StartLF), builder.literal(b"a")?)?;
-    let never = builder.repeat(builder.look(Look::End), 0, Some(0))?;
+    let line = builder.then(builder.assertion(Look::StartLF), builder.literal(b"a")?)?;
+    let never = builder.repeat(builder.assertion(Look::End), 0, Some(0))?;
     let both = builder.then(line, never)?;
     let looks = parts::looks_of(rt.alloc(), AsciiWord, both)?;
     assert!(rt; looks == LookSet::singleton(Look::StartLF));
@@ -304,12 +304,7 @@ fn the_bytes_of_a_group_are_cut_out(rt: HostRuntime) -> Result<(), Fail> {
 fn a_run_and_what_is_quoted_end_where_they_should(rt: HostRuntime) -> Result<(), Fail> {
     assert!(rt; ends::find_run(rt.alloc(), b'a', b'z', b"-ab1")? == Some((1, 3)));
     assert!(rt; ends::find_run(rt.alloc(), b'a', b'z', b"12")? == None);
-    assert!(rt;
-        matches!(
-            ends::find_run(rt.alloc(), b'z', b'a', b"ab"),
-            Err(Error::Faulty)
-        )
-    );
+    assert!(rt; ends::find_run(rt.alloc(), b'z', b'a', b"ab")? == None);
     assert!(rt; ends::find_quoted(rt.alloc(), b"a \"b\" \"c\"")? == Some((2, 5)));
     assert!(rt; ends::find_quoted(rt.alloc(), b"a \"b")? == None);
     Ok(())

@@ -4,7 +4,7 @@ use Rattle.rsc_captures.proofs.GroupsLemmas.{length-lists_in, group_count_in}
 use Rattle.rsc_captures.proofs.faults.first_other_fault.Goals as goal
 
 pub returns-in-Err : goal.returns-in-Err
-returns-in-Err g c = refusal_at c.loop-p.invariant.groups _ (rw length-lists_in (omega arith), omega arith) c.in-Err.ensures.err
+returns-in-Err g c = refusal_at c.loop-p.invariant.groups _ (rw length-lists_in (omega arith), omega arith) c.in-Err.ensures.refused
 
 pub returns-then-explicit-room : goal.returns-then-explicit-room
 returns-then-explicit-room g c =

@@ -17,8 +17,8 @@ pub repeated-requires-clause-number : goal.repeated-requires-clause-number
 repeated-requires-clause-number g c =
     (pattern_clear (lists_in c.args.lists.now) c.loop-p.p (c.requires.groups.patterns c.loop-p.p (rw length-lists_in (omega arith)))).0
 
-pub returns-then-g-groups-clause-err : goal.returns-then-g-groups-clause-err
-returns-then-g-groups-clause-err g c =
+pub returns-then-g-groups-clause-refused : goal.returns-then-g-groups-clause-refused
+returns-then-g-groups-clause-refused g c =
     let lt : c.loop-p.p < length c.args.lists.now = omega arith in
     let found = repeat_of_pattern _ _ _ (length c.args.lists.now) 0 _ c.loop-p.invariant.none (rw (group_count_in _ _ lt) c.if-g-groups.true)
     (rw (groups_of_in _ _ lt) (c.repeat_in_order-g.ensures.repeat c.if-g-groups.true)) (rw (groups_of_in _ _ lt) c.repeat_in_order-g.ensures.distinct)

@@ -19,7 +19,7 @@ returns-then-branch-clause-found g c =
       is_line = k.is_line;
       from = omega (arith, k.from, c.loop-at.invariant.low);
       matches =
-          (rw (c.candidate.ensures.program ∙ c.loop-at.invariant.program, c.span.ensures, c.new.ensures) at c.in_ok-is_match.ensures.some) c.if-branch.true;
+          (rw (c.candidate.ensures.kept ∙ c.loop-at.invariant.program, c.span.ensures, c.new.ensures) at c.in_ok-is_match.ensures.found) c.if-branch.true;
       none_before = none-joined h Has c.args.from c.loop-at.at c.in-Some.line.start c.loop-at.invariant.passed k.none_before;
     }
 
@@ -29,9 +29,9 @@ loop-at-preserved g c =
     let Has = HasMatchIn g.W.WordClass.word_chars c.args.dfa.now h in
     let k : IsCandidate h Has c.loop-at.at c.in-Some.line = rw (c.in-Some.is, c.loop-at.invariant.program) at c.in_ok-line.ensures.some in
     let none =
-    (rw (c.candidate.ensures.program ∙ c.loop-at.invariant.program, c.span.ensures, c.new.ensures) at c.in_ok-is_match.ensures.none) c.if-branch.false in
+    (rw (c.candidate.ensures.kept ∙ c.loop-at.invariant.program, c.span.ensures, c.new.ensures) at c.in_ok-is_match.ensures.none) c.if-branch.false in
     record {
-      program = c.is_match.ensures.program ∙ c.candidate.ensures.program ∙ c.loop-at.invariant.program;
+      program = c.is_match.ensures.kept ∙ c.candidate.ensures.kept ∙ c.loop-at.invariant.program;
       begins = begins-after h c.in-Some.line k.is_line;
       low = omega (arith, k.from, k.is_line.order, c.loop-at.invariant.low);
       passed = none-past h Has c.args.from c.loop-at.at c.in-Some.line c.loop-at.invariant.passed k (λ some. some none);

@@ -12,8 +12,8 @@ copied at b n ys low e l p =
     ap (take n) (p ∙ ap (λ m. take m (drop (8 * at) STEP_TEXTS)) width) ∙ take-take n 8 (drop (8 * at) STEP_TEXTS) (length_fits 8 STEP_LENGTHS b n refl low l)
     ∙ ap (λ a. take n (drop (8 * a) STEP_TEXTS)) e ∙ ap (λ m. take m (drop (8 * b) STEP_TEXTS)) l ∙ tabled_is 8 STEP_TEXTS STEP_LENGTHS step_text refl b low
 
-pub returns-clause-bound : goal.returns-clause-bound
-returns-clause-bound c =
+pub returns-clause-most : goal.returns-clause-most
+returns-clause-most c =
     length_fits 8 STEP_LENGTHS c.args.byte _ refl (omega arith) (c.from-2.ensures ∙ ap (λ i. get_or STEP_LENGTHS i 0) c.from.ensures)
 
 pub returns-clause-text : goal.returns-clause-text

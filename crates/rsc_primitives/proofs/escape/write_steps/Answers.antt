@@ -11,7 +11,7 @@ pub steps-preserved-in-None : goal.steps-preserved-in-None
 steps-preserved-in-None g c =
     elim c.if-len.branch [
       | then-len+in_ok-write_piece w ↦ (
-        omega (arith, w.len-is, c.put_byte-len.ensures.bound),
+        omega (arith, w.len-is, c.put_byte-len.ensures.most),
         λ only plain.
             let now = c.steps.invariant.1 only plain in (
               now.0 ++ take c.steps.len c.steps.piece,
@@ -22,7 +22,7 @@ steps-preserved-in-None g c =
             ),
       )
       | else-len w ↦ (
-        omega (arith, w.len-is, w.if-len.false, c.put_byte-len.ensures.bound),
+        omega (arith, w.len-is, w.if-len.false, c.put_byte-len.ensures.most),
         λ only plain. (
           (c.steps.invariant.1 only plain).0,
           rw w.f-is (c.steps.invariant.1 only plain).1,

@@ -24,7 +24,7 @@ matches-init g c = record {
   haystack = rw (c.in_ok-matches.ensures.made, c.new.ensures) refl;
   end = rw (c.in_ok-matches.ensures.made, c.new.ensures) refl;
   from = rw (c.in_ok-matches.ensures.made, c.new.ensures) refl;
-  slots = rw c.in_ok-matches.ensures.made c.in_ok-captures.ensures.slots;
+  slots = rw c.in_ok-matches.ensures.made c.in_ok-captures.ensures.room;
   within = omega arith;
 }
 
@@ -36,7 +36,7 @@ matches-preserved g c =
     let expanded = c.in_ok-expand-in-Some.ensures.filled in
     let between : slice_range c.args.text.now c.matches.from c.start.result
     ≡ slice_range c.matches.matches.input.haystack c.matches.matches.input.span.start c.in-Some.found.span.start =
-    rw (c.matches.invariant.haystack, c.matches.invariant.from, c.start.ensures.start) refl in
+    rw (c.matches.invariant.haystack, c.matches.invariant.from, c.start.ensures.value) refl in
     let text = filled c.matches.matches.input.haystack c.next.new.captures c.args.template.now in
     let same : filled c.args.text.now c.next.new.captures c.args.template.now ≡ text =
     ap (λ (x : List ℕ). filled x c.next.new.captures c.args.template.now) (sym c.matches.invariant.haystack) in
@@ -53,9 +53,9 @@ matches-preserved g c =
       begun = rw (on, items) begun;
       haystack = ap (λ x. x.input.haystack) on ∙ c.matches.invariant.haystack;
       end = ap (λ x. x.input.span.end) on ∙ c.matches.invariant.end;
-      from = ap (λ x. x.input.span.start) on ∙ sym c.end-from.ensures.end;
+      from = ap (λ x. x.input.span.start) on ∙ sym c.end-from.ensures.value;
       slots = rw on slots;
-      within = omega (arith, within.2, c.end-from.ensures.end, c.matches.invariant.end);
+      within = omega (arith, within.2, c.end-from.ensures.value, c.matches.invariant.end);
     }
 
 pub returns-clause-replaced : goal.returns-clause-replaced

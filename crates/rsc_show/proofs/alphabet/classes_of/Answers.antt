@@ -5,7 +5,7 @@ use Rattle.rsc_show.proofs.alphabet.classes_of.Goals as goal
 
 pub returns-clause-parting : goal.returns-clause-parting
 returns-clause-parting c =
-    rw c.byte_classes.ensures.map
+    rw c.byte_classes.ensures.value
     (coarsest_parting (sets.contains c.alphabet_of.result) c.args.ranges.now c.args.looks.now c.args.matcher.now.0 (chosen_word_chars c.args.matcher.now.1)
     (λ l. c.boundaries_are_exact.ensures l _ _ (λ _. c.word_predicates_agree.ensures c.args.matcher.now.1))
     c.alphabet_of.ensures.keeps c.alphabet_of.ensures.parts
@@ -13,7 +13,7 @@ returns-clause-parting c =
 
 pub returns-clause-coarsest : goal.returns-clause-coarsest
 returns-clause-coarsest c = λ none.
-    rw c.byte_classes.ensures.map
+    rw c.byte_classes.ensures.value
     (coarsest_map (sets.contains c.alphabet_of.result) c.args.ranges.now c.args.looks.now c.args.matcher.now.0 (chosen_word_chars c.args.matcher.now.1)
     (λ l. c.boundaries_are_exact.ensures l _ _ (λ _. c.word_predicates_agree.ensures c.args.matcher.now.1))
     c.alphabet_of.ensures.keeps c.alphabet_of.ensures.parts

@@ -18,7 +18,7 @@ loop-start-preserved c =
           rw w.set-is
           (rw (take_more ranges i (0, 0) c.loop-start-test.true)
           (boundaries_added before (sets.contains w.set_range.new.self) (sets.contains (boundaries_of_range r)) (take i ranges) r
-          (λ b. w.set_range.ensures.boundaries b ∙ ap (λ x. before b || x) (sym (c.boundaries_part_a_range.ensures.members r.0 r.1 b)))
+          (λ b. w.set_range.ensures.members b ∙ ap (λ x. before b || x) (sym (c.boundaries_part_a_range.ensures.members r.0 r.1 b)))
           (λ b lt. c.boundaries_part_a_range.ensures.boundary r b lt)
           (omega (arith, w.if-start-end))
           c.loop-start.invariant))

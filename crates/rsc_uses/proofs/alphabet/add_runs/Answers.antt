@@ -9,7 +9,7 @@ loop-start-init c = (
   tt,
   tt,
   ap (λ rs. sets.union c.args.partition.now (boundaries_of_ranges rs))
-      (c.into_iter-start-iterator.ensures.into_iter_gives ∙ c.iter_ranges-start-items.ensures.list),
+      (c.into_iter-start-iterator.ensures.into_iter_gives ∙ c.iter_ranges-start-items.ensures.value),
 )
 
 pub loop-start-preserved : goal.loop-start-preserved
@@ -17,7 +17,7 @@ loop-start-preserved c =
     let first = boundaries_of_range (c.in-Some.start, c.in-Some.end) in (
       tt,
       tt,
-      ap (λ s. sets.union s (boundaries_of_ranges c.next.new.self)) c.set_range.ensures.set
+      ap (λ s. sets.union s (boundaries_of_ranges c.next.new.self)) c.set_range.ensures.value
           ∙ union_assoc c.loop-start.partition first (boundaries_of_ranges c.next.new.self)
           ∙ sym (ap (λ rs. sets.union c.loop-start.partition (boundaries_of_ranges rs)) c.in-Some.ensures.steps) ∙ c.loop-start.invariant.2,
     )

@@ -16,7 +16,7 @@ loop-unit-preserved c =
     let long = c.loop-unit.invariant.2 in
     let small : number_of u < slice_index map 255 + 2 =
     All-contains (λ v. number_of v < slice_index map 255 + 2) (symbols map) u
-    (subst (All (λ v. number_of v < slice_index map 255 + 2)) c.iter-unit-items.ensures.list c.iter-unit-items.ensures.within)
+    (subst (All (λ v. number_of v < slice_index map 255 + 2)) c.iter-unit-items.ensures.value c.iter-unit-items.ensures.within)
     (next_is_among awaits c.in-Some.ensures.steps) in (
       tt,
       tt,

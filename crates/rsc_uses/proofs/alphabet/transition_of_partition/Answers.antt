@@ -11,6 +11,6 @@ returns-then-row-table-clause-none c =
     let some : 0 < width = omega (arith, c.stride2.ensures.enough) in
     let row : c.args.row + 1 ≤ length c.args.table.now / width = omega (arith, c.if-row-table.true) in
     let same : c.stride2.result ≡ stride2_of (class_map (sets.contains c.args.partition.now)) =
-    c.stride2.ensures.value ∙ ap stride2_of c.byte_classes-map.ensures.map in
+    c.stride2.ensures.value ∙ ap stride2_of c.byte_classes-map.ensures.value in
     let whole = subst (λ s. (c.args.row + 1) * 2 ^ s ≤ length c.args.table.now) same ((le-div_iff_mul-le some).0 row) in
     (λ f. search rules, λ short. absurd (omega (arith, whole, short)))

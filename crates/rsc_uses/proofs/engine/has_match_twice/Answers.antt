@@ -11,7 +11,7 @@ some_then_true false none some = absurd (some (none refl))
 
 pub returns-in-None-clause-same : goal.returns-in-None-clause-same
 returns-in-None-clause-same g c =
-    none_then_false c.in_ok-by_table.by_table c.in_ok-by_table.ensures.some (rw c.requires.of_program (rw c.in-None.is at c.in_ok-find.ensures.none))
+    none_then_false c.in_ok-by_table.by_table c.in_ok-by_table.ensures.found (rw c.requires.of_program (rw c.in-None.is at c.in_ok-find.ensures.none))
 
 pub returns-in-Some-clause-same : goal.returns-in-Some-clause-same
 returns-in-Some-clause-same g c =

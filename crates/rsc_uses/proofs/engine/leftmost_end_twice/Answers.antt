@@ -31,4 +31,4 @@ returns-in-Some-clause-same g c =
     same_end (search_in g.W.WordClass.word_chars c.args.program.now c.args.input.now) c.in_ok-by_table.by_table found.run c.end.result
     (c.there_is_one_first_match.ensures.first _) (c.there_is_one_first_match.ensures.none _)
     (rw c.requires.of_program at c.in_ok-by_table.ensures.found) (rw c.requires.of_program at c.in_ok-by_table.ensures.none)
-    found.is_first (c.end.ensures.end ∙ found.is_of.ends.end)
+    found.is_first (c.end.ensures.value ∙ found.is_of.ends.end)

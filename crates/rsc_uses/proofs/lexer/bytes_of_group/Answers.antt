@@ -8,21 +8,21 @@ use Rattle.rsc_uses.proofs.lexer.bytes_of_group.Goals as goal
 pub slice_bounds-result-count : goal.slice_bounds-result-count
 slice_bounds-result-count g c =
     let found = rw (c.in-Some.is, c.new-input.ensures) at c.in_ok-find.ensures.found in
-    let span = c.get_group.ensures.span in
+    let span = c.get_group.ensures.value in
     (c.a_group_that_begins_ends.ensures.first_span c.in_ok-program.program (whole c.args.text.now) c.find.new.captures c.in-Some.whole c.args.group
     c.in-Some-get_group.span c.in_ok-program.ensures.closes found (sym (rw c.in-Some-get_group.is at span))).1
 
 pub slice_bounds-result-start : goal.slice_bounds-result-start
 slice_bounds-result-start g c =
     let found = rw (c.in-Some.is, c.new-input.ensures) at c.in_ok-find.ensures.found in
-    let span = c.get_group.ensures.span in
+    let span = c.get_group.ensures.value in
     (c.a_group_that_begins_ends.ensures.first_span c.in_ok-program.program (whole c.args.text.now) c.find.new.captures c.in-Some.whole c.args.group
     c.in-Some-get_group.span c.in_ok-program.ensures.closes found (sym (rw c.in-Some-get_group.is at span))).1
 
 pub slice_bounds-result-end : goal.slice_bounds-result-end
 slice_bounds-result-end g c =
     let found = rw (c.in-Some.is, c.new-input.ensures) at c.in_ok-find.ensures.found in
-    let span = c.get_group.ensures.span in
+    let span = c.get_group.ensures.value in
     let within = rw (c.in-Some.is, c.new-input.ensures) at c.in_ok-find.ensures.within in
     let order = c.a_group_that_begins_ends.ensures.first_span c.in_ok-program.program (whole c.args.text.now) c.find.new.captures c.in-Some.whole
     c.args.group c.in-Some-get_group.span c.in_ok-program.ensures.closes found (sym (rw c.in-Some-get_group.is at span)) in
@@ -35,7 +35,7 @@ returns-clause-some g c =
     let matches = rw c.new.ensures.patterns at c.in_ok-program.ensures.matches in
     let found = rw (c.in-Some.is, c.new-input.ensures) at c.in_ok-find.ensures.found in
     let within = rw (c.in-Some.is, c.new-input.ensures) at c.in_ok-find.ensures.within in
-    let its = c.get_group.ensures.span in
+    let its = c.get_group.ensures.value in
     let order = c.a_group_that_begins_ends.ensures.first_span program (whole c.args.text.now) c.find.new.captures c.in-Some.whole
     c.args.group c.in-Some-get_group.span c.in_ok-program.ensures.closes found (sym (rw c.in-Some-get_group.is at its)) in (
       c.in-Some.whole.span.start,
@@ -72,5 +72,5 @@ returns-in-None-get_group-clause-none g c = λ first.
     (number_of p (search_in g.W.WordClass.word_chars program (whole c.args.text.now)) c.in-Some.whole
     (c.a_first_match_is_of_a_pattern.ensures.some program (p ∷ []) (whole c.args.text.now) _ _ matches found))
     (c.the_first_group_is_the_match.ensures.first_group program (whole c.args.text.now) _ _ c.in_ok-program.ensures.ends found) in
-    let none = rw (c.in-None-get_group.is, first) at c.get_group.ensures.span in
+    let none = rw (c.in-None-get_group.is, first) at c.get_group.ensures.value in
     absurd (cc)

@@ -16,8 +16,8 @@ matches-init g c =
       first = rw c.new-all.ensures.items
           (first_none (IsNextWith g.W.WordClass.word_chars c.args.group) (λ left both. after left both.0) c.in_ok-matches.matches);
       program = refl;
-      groups = rw program (c.in_ok-captures.ensures.slots.0);
-      slots = rw program (c.in_ok-captures.ensures.slots.1);
+      groups = rw program (c.in_ok-captures.ensures.room.0);
+      slots = rw program (c.in_ok-captures.ensures.room.1);
     }
 
 pub matches-preserved : goal.matches-preserved
@@ -32,7 +32,7 @@ matches-preserved g c =
             _,
             rw c.in-Some.is at c.in_ok-next.ensures.found,
             (groups, slots),
-            c.get_group.ensures.span,
+            c.get_group.ensures.value,
             slot_within c.group_info.result.now c.matches.matches.program.automaton.groups c.in-Some.found.pattern c.args.group c.slot-slot.result
                 (c.group_info.ensures ∙ groups) (rw c.pattern.ensures at c.slot-slot.ensures.value) c.slot-slot.ensures.within,
           ));

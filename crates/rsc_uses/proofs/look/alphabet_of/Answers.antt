@@ -13,7 +13,7 @@ use Rattle.rsc_uses.proofs.look.alphabet_of.Goals as goal
 pub loop-look-init : goal.loop-look-init
 loop-look-init g c = record {
   keeps = λ q h. c.kept_lists_are_joined.ensures.none q c.args.matcher.now.0 (g.W.WordClass.word_chars c.args.matcher.now.1);
-  stops = λ any. rw (c.add_set.ensures.boundaries 127, c.quit_bytes.ensures 127 (omega arith), c.quit_bytes.ensures 128 (omega arith), any) (or-true _);
+  stops = λ any. rw (c.add_set.ensures.members 127, c.quit_bytes.ensures 127 (omega arith), c.quit_bytes.ensures 128 (omega arith), any) (or-true _);
 }
 
 pub loop-look-preserved : goal.loop-look-preserved
@@ -29,10 +29,10 @@ loop-look-preserved g c = record {
       rw (take_more looks i Start c.loop-look-test.true)
       (c.kept_lists_are_joined.ensures.both q (take i looks) (look ∷ []) t W
       (c.loop-look.invariant.keeps q
-      (λ b lt e. h b lt (rw c.add_to_byteset.ensures.adds
+      (λ b lt e. h b lt (rw c.add_to_byteset.ensures.value
       (contains-union nat_cmp_total c.loop-look.set added b ∙ ap (λ x. x || sets.contains added b) e))))
       (exact.kept q h));
-  stops = λ any. rw (c.add_to_byteset.ensures.at 127, c.loop-look.invariant.stops any) refl;
+  stops = λ any. rw (c.add_to_byteset.ensures.members 127, c.loop-look.invariant.stops any) refl;
 }
 
 pub returns-clause-keeps : goal.returns-clause-keeps

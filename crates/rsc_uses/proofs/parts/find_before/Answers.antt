@@ -27,7 +27,7 @@ returns-clause-goes g c =
     (c.a_first_match_is_of_a_pattern.ensures.some program (both ∷ []) (whole c.args.haystack.now) _ _ matches found)
     (λ its count.
     c.a_group_is_where_its_part_goes.ensures.first_span program (both ∷ []) (whole c.args.haystack.now) c.find.new.captures c.in-Some.field-0 both p 1
-    c.in-Some-get_group.span ways found its same count (inl refl) (sym c.get_group.ensures.span ∙ c.in-Some-get_group.is))
+    c.in-Some-get_group.span ways found its same count (inl refl) (sym c.get_group.ensures.value ∙ c.in-Some-get_group.is))
 
 pub returns-in-None-clause-none : goal.returns-in-None-clause-none
 returns-in-None-clause-none g c =
@@ -62,4 +62,4 @@ returns-in-None-get_group-clause-none g c =
     (record { pattern = first.is_of.pattern; slots = w.2 }) room.0 room.1 in
     absurd (span_set (subject_of e) (2 * found.pattern) (slot_of 1) (numbered slot_of 2 p) (numbered slot_of (1 + count_groups (Group 0 p)) q)
     (found.span.start, []) (found.span.end, w.0) (λ r slot k l i. c.what_was_recorded_stays.ensures (subject_of e) r slot k l i) w.1
-    (no_span c.find.new.captures 1 (slot_of 1) w.0 c.get_group.result c.get_group.ensures.span c.in-None-get_group.is span))
+    (no_span c.find.new.captures 1 (slot_of 1) w.0 c.get_group.result c.get_group.ensures.value c.in-None-get_group.is span))

@@ -15,7 +15,7 @@ returns-clause-some g c =
     (whole c.args.haystack.now) _ c.in-Some.found (rw c.new.ensures.patterns at c.in_ok-program.ensures.built)
     (rw c.new.ensures.groups at c.in_ok-program.ensures.groups) c.in_ok-program.ensures.matcher
     (rw (c.in-Some.is, c.new-input.ensures) at c.in_ok-find.ensures.found) in
-    rw (c.start.ensures.start, c.end.ensures.end) one.0.goes
+    rw (c.start.ensures.value, c.end.ensures.value) one.0.goes
 
 pub returns-clause-first : goal.returns-clause-first
 returns-clause-first g c = λ i j before within.
@@ -23,7 +23,7 @@ returns-clause-first g c = λ i j before within.
     (whole c.args.haystack.now) _ c.in-Some.found (rw c.new.ensures.patterns at c.in_ok-program.ensures.built)
     (rw c.new.ensures.groups at c.in_ok-program.ensures.groups) c.in_ok-program.ensures.matcher
     (rw (c.in-Some.is, c.new-input.ensures) at c.in_ok-find.ensures.found) in
-    one.1 i j (omega arith) (rw c.start.ensures.start at before) within
+    one.1 i j (omega arith) (rw c.start.ensures.value at before) within
 
 pub returns-clause-way : goal.returns-clause-way
 returns-clause-way g c =
@@ -31,7 +31,7 @@ returns-clause-way g c =
     (whole c.args.haystack.now) _ c.in-Some.found (rw c.new.ensures.patterns at c.in_ok-program.ensures.built)
     (rw c.new.ensures.groups at c.in_ok-program.ensures.groups) c.in_ok-program.ensures.matcher
     (rw (c.in-Some.is, c.new-input.ensures) at c.in_ok-find.ensures.found) in
-    rw (c.start.ensures.start, c.end.ensures.end) (one.0.records, one.0.way)
+    rw (c.start.ensures.value, c.end.ensures.value) (one.0.records, one.0.way)
 
 pub returns-clause-first_end : goal.returns-clause-first_end
 returns-clause-first_end g c = λ loops.

@@ -6,7 +6,7 @@ pub loop-pid-init : goal.loop-pid-init
 loop-pid-init c = (
   tt,
   tt,
-  these_left c.args.table.now c.args.set.now.members (2 ^ 64) (c.into_iter-pid-iterator.ensures.into_iter_gives ∙ c.iter-pid-items.ensures.members),
+  these_left c.args.table.now c.args.set.now.members (2 ^ 64) (c.into_iter-pid-iterator.ensures.into_iter_gives ∙ c.iter-pid-items.ensures.value),
 )
 
 pub loop-pid-preserved : goal.loop-pid-preserved

@@ -7,4 +7,4 @@ pub returns : goal.returns
 returns c =
     let each = λ (k : ℕ). c.add_boundaries.ensures k ∙ ap (λ x. sets.contains c.args.self.now k || x)
     (boundaries_of_ends c.args.set.now c.run_starts.result c.run_ends.result c.run_starts.ensures c.run_ends.ensures k) in
-    record { set = boundaries_added c.args.set.now c.args.self.now c.add_boundaries.new.self each; boundaries = each }
+    record { value = boundaries_added c.args.set.now c.args.self.now c.add_boundaries.new.self each; members = each }

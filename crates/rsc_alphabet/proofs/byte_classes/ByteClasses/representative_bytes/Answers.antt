@@ -4,7 +4,7 @@ use Rattle.rsc_alphabet.proofs.IteratorsLemmas.{members_none, representing_none,
 use Rattle.rsc_alphabet.proofs.byte_classes.ByteClasses.representative_bytes.Goals as goal
 
 pub returns-then-first-end : goal.returns-then-first-end
-returns-then-first-end c = ap members c.empty.ensures.set ∙ members_none ∙ sym (representing_none c.args.self.now c.args.first c.args.end (omega arith))
+returns-then-first-end c = ap members c.empty.ensures.value ∙ members_none ∙ sym (representing_none c.args.self.now c.args.first c.args.end (omega arith))
 
 pub returns : goal.returns
 returns c =

@@ -7,4 +7,4 @@ returns-clause-span g c = set_span c.args.self.now c.write_group.new.self c.args
 
 pub returns-clause-others : goal.returns-clause-others
 returns-clause-others g c = set_others c.args.self.now c.write_group.new.self c.args.index c.args.span c.write_group.result _ c.write_group.ensures.done
-    c.write_group.ensures.written c.write_group.ensures.refused
+    c.write_group.ensures.written c.write_group.ensures.kept

@@ -8,7 +8,7 @@ use Rattle.rsc_captures.proofs.group_info.GroupInfo.new_limited.Goals as goal
 
 pub returns-in_default-clause-refused : goal.returns-in_default-clause-refused
 returns-in_default-clause-refused g c =
-    IfErr-weaker c.build.result _ _ (refuses_from c.in_default.ensures (length c.args.lists.now) (length-lists_in c.args.lists.now)) c.build.ensures.err
+    IfErr-weaker c.build.result _ _ (refuses_from c.in_default.ensures (length c.args.lists.now) (length-lists_in c.args.lists.now)) c.build.ensures.refused
 
 -- a pattern with a group before the group of another fault has a number
 pub first_repeat_before-requires-clause-patterns : goal.first_repeat_before-requires-clause-patterns

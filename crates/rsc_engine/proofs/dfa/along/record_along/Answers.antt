@@ -12,32 +12,32 @@ positions-init g c =
     let there = arrives-within _ _ _ c.requires.begins in
     record {
       len = search rules;
-      there = c.start-sid.ensures.there;
+      there = c.start-sid.ensures.within;
       low = there.1;
       from = omega arith;
       to = there.2;
       known = c.requires.known;
-      led = rw c.start-sid.ensures.start (led-first _ _ _ c.requires.empty c.requires.begins);
+      led = rw c.start-sid.ensures.value (led-first _ _ _ c.requires.empty c.requires.begins);
     }
 
 pub list_at-list-requires-clause-index : goal.list_at-list-requires-clause-index
 list_at-list-requires-clause-index g c =
     let e = search_in g.W.WordClass.word_chars c.args.program.now c.args.input.now in
     (logged-at e c.args.start c.positions.at c.end-end.result c.args.table.now.rows.items c.args.log.now c.positions.invariant.from
-    c.positions.invariant.to c.end-end.ensures.end c.requires.log).0
+    c.positions.invariant.to c.end-end.ensures.value c.requires.log).0
 
 pub list_at-list-requires-clause-row : goal.list_at-list-requires-clause-row
 list_at-list-requires-clause-row g c =
     let e = search_in g.W.WordClass.word_chars c.args.program.now c.args.input.now in
     (logged-at e c.args.start c.positions.at c.end-end.result c.args.table.now.rows.items c.args.log.now c.positions.invariant.from
-    c.positions.invariant.to c.end-end.ensures.end c.requires.log).1
+    c.positions.invariant.to c.end-end.ensures.value c.requires.log).1
 
 pub returns-in-Some-clause-recorded : goal.returns-in-Some-clause-recorded
 returns-in-Some-clause-recorded g c =
     let e = search_in g.W.WordClass.word_chars c.args.program.now c.args.input.now in
     rw c.in-Some.is at (c.in_ok-next.ensures.on c.args.start
     (logged-lists e c.args.start c.positions.at c.end-end.result c.args.table.now.rows.items c.args.log.now c.list_at-list.result.now
-    c.positions.invariant.low c.positions.invariant.from c.positions.invariant.to c.end-end.ensures.end c.requires.log c.list_at-list.ensures)
+    c.positions.invariant.low c.positions.invariant.from c.positions.invariant.to c.end-end.ensures.value c.requires.log c.list_at-list.ensures)
     c.positions.invariant.led)
 
 pub set_slot-requires : goal.set_slot-requires
@@ -45,7 +45,7 @@ set_slot-requires g c =
     let e = search_in g.W.WordClass.word_chars c.args.program.now c.args.input.now in
     let goes : GoesTo e c.args.start c.in-Some-known.last.0 c.in-Some-known.last.1 =
     subst (λ o. IfSome o (λ k. GoesTo e c.args.start k.0 k.1)) c.in-Some-known.is c.positions.invariant.known in
-    omega (arith, goes-within _ _ _ _ goes, c.end-end.ensures.small)
+    omega (arith, goes-within _ _ _ _ goes, c.end-end.ensures.most)
 
 pub returns-in-Some-known-clause-recorded : goal.returns-in-Some-known-clause-recorded
 returns-in-Some-known-clause-recorded g c =
@@ -55,7 +55,7 @@ returns-in-Some-known-clause-recorded g c =
     let led : IsLed e c.args.start c.in_ok-next.next (c.positions.at + 1) c.pass.new.slots =
     rw c.in_default.is at (c.in_ok-next.ensures.on c.args.start
     (logged-lists e c.args.start c.positions.at c.end-end.result c.args.table.now.rows.items c.args.log.now c.list_at-list.result.now
-    c.positions.invariant.low c.positions.invariant.from c.positions.invariant.to c.end-end.ensures.end c.requires.log c.list_at-list.ensures)
+    c.positions.invariant.low c.positions.invariant.from c.positions.invariant.to c.end-end.ensures.value c.requires.log c.list_at-list.ensures)
     c.positions.invariant.led) in
     record {
       goes = goes;
@@ -70,7 +70,7 @@ positions-smaller g c =
     let led : IsLed e c.args.start c.in_ok-next.next (c.positions.at + 1) c.pass.new.slots =
     rw c.in_default.is at (c.in_ok-next.ensures.on c.args.start
     (logged-lists e c.args.start c.positions.at c.end-end.result c.args.table.now.rows.items c.args.log.now c.list_at-list.result.now
-    c.positions.invariant.low c.positions.invariant.from c.positions.invariant.to c.end-end.ensures.end c.requires.log c.list_at-list.ensures)
+    c.positions.invariant.low c.positions.invariant.from c.positions.invariant.to c.end-end.ensures.value c.requires.log c.list_at-list.ensures)
     c.positions.invariant.led) in
     omega (arith, led-within _ _ _ _ _ led)
 
@@ -80,7 +80,7 @@ positions-preserved g c =
     let led : IsLed e c.args.start c.in_ok-next.next (c.positions.at + 1) c.pass.new.slots =
     rw c.in_default.is at (c.in_ok-next.ensures.on c.args.start
     (logged-lists e c.args.start c.positions.at c.end-end.result c.args.table.now.rows.items c.args.log.now c.list_at-list.result.now
-    c.positions.invariant.low c.positions.invariant.from c.positions.invariant.to c.end-end.ensures.end c.requires.log c.list_at-list.ensures)
+    c.positions.invariant.low c.positions.invariant.from c.positions.invariant.to c.end-end.ensures.value c.requires.log c.list_at-list.ensures)
     c.positions.invariant.led) in
     record {
       len = c.in_ok-next.ensures.len;

@@ -11,27 +11,27 @@ pub rows-init : goal.rows-init
 rows-init g c =
     let e = search_in g.W.WordClass.word_chars c.args.plan.now.program.now c.args.input.now in
     let after : c.after_of-after.result ≡ byte_after c.args.input.now.haystack c.args.input.now.span.end =
-    rw (c.haystack.ensures.bytes, c.end-end.ensures.end) at c.after_of-after.ensures.after in
+    rw (c.haystack.ensures.bytes, c.end-end.ensures.value) at c.after_of-after.ensures.value in
     let row = rw c.get_anchored-mode.ensures at c.in_ok-row.ensures.row in
     let stands = stands-back-first e c.args.plan.now.classes c.last_row.new.self.rows.items c.in_ok-row.row c.after_of-after.result
     c.requires.order after row in
     record {
       exact = c.last_row.ensures.exact;
-      on = rw c.end-end.ensures.end (record {
+      on = rw c.end-end.ensures.value (record {
         stands = stands;
         logged = logged-first e c.args.plan.now.classes c.last_row.new.self.rows.items c.in_ok-row.row c.args.input.now.span.end
             c.add_to_log.new.log.items (c.in_ok-add_to_log.ensures.adds ∙ ap (λ l. l ++ c.in_ok-row.row ∷ []) c.clear.ensures.items) stands;
       });
       row = slice_get_within _ _ row.to row.there;
-      start = omega (arith, c.requires.order, c.end-end.ensures.end);
-      end = omega (arith, c.end-end.ensures.end);
+      start = omega (arith, c.requires.order, c.end-end.ensures.value);
+      end = omega (arith, c.end-end.ensures.value);
     }
 
 pub returns-then-position-start-clause-first : goal.returns-then-position-start-clause-first
 returns-then-position-start-clause-first g c = λ _ run f ends.
     let e = search_in g.W.WordClass.word_chars c.args.plan.now.program.now c.args.input.now in
     let on = c.in_ok-next.ensures.on in
-    let at : c.in_ok-here.position ≡ c.args.input.now.span.start = omega (arith, c.if-position-start.true, c.start-start.ensures.start) in
+    let at : c.in_ok-here.position ≡ c.args.input.now.span.start = omega (arith, c.if-position-start.true, c.start-start.ensures.value) in
     let is = start-at-first e run f ends c.in_ok-here.position c.in_ok-next.now at on.is_least in (
       is,
       logged-from e c.in_ok-here.position c.in_ok-next.now c.step_back.new.self.rows.items c.add_to_log-in-rows.new.log.items
@@ -45,7 +45,7 @@ pub returns-then-position-start-clause-whole : goal.returns-then-position-start-
 returns-then-position-start-clause-whole g c = λ _.
     let e = search_in g.W.WordClass.word_chars c.args.plan.now.program.now c.args.input.now in
     logged-from e c.in_ok-here.position c.args.input.now.span.start c.step_back.new.self.rows.items c.add_to_log-in-rows.new.log.items
-    (omega (arith, c.if-position-start.true, c.start-start.ensures.start))
+    (omega (arith, c.if-position-start.true, c.start-start.ensures.value))
     (log-on e c.args.plan.now.classes c.rows.table.rows.items c.step_back.new.self.rows.items c.in_ok-next.next c.in_ok-here.position c.in_ok-next.now
     c.follow_back.new.log.items c.add_to_log-in-rows.new.log.items c.in_ok-add_to_log-2.ensures.adds
     (c.in_ok-next.ensures.kept (omega (arith, c.rows.table.rows.small, c.requires.room))) c.in_ok-next.ensures.on c.in_ok-here.ensures.on.logged)
@@ -74,11 +74,11 @@ rows-preserved g c =
       exact = c.step_back.ensures.exact;
       on = back-on e c.args.plan.now.classes c.step_back.new.self.rows.items c.in_ok-next.next c.in_ok-here.position c.in_ok-next.now
           c.add_to_log-in-rows.new.log.items
-          (omega (arith, c.if-position-start.false, c.start-start.ensures.start, c.in_ok-here.ensures.start)) c.in_ok-next.ensures.on
+          (omega (arith, c.if-position-start.false, c.start-start.ensures.value, c.in_ok-here.ensures.start)) c.in_ok-next.ensures.on
           (log-on e c.args.plan.now.classes c.rows.table.rows.items c.step_back.new.self.rows.items c.in_ok-next.next c.in_ok-here.position c.in_ok-next.now
           c.follow_back.new.log.items c.add_to_log-in-rows.new.log.items c.in_ok-add_to_log-2.ensures.adds
           (c.in_ok-next.ensures.kept (omega (arith, c.rows.table.rows.small, c.requires.room))) c.in_ok-next.ensures.on c.in_ok-here.ensures.on.logged);
       row = c.in_ok-next.ensures.row;
-      start = omega (arith, c.if-position-start.false, c.start-start.ensures.start, c.in_ok-here.ensures.start);
+      start = omega (arith, c.if-position-start.false, c.start-start.ensures.value, c.in_ok-here.ensures.start);
       end = omega (arith, c.in_ok-here.ensures.further, c.rows.invariant.end);
     }

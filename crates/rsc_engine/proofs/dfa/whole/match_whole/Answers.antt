@@ -10,10 +10,10 @@ use Rattle.rsc_engine.proofs.dfa.whole.match_whole.Goals as goal
 pub set_ends-requires-clause-start : goal.set_ends-requires-clause-start
 set_ends-requires-clause-start g c =
     let low = start-before-end _ c.args.pattern c.in_ok-start.start c.args.end c.in_ok-start.ensures.start in
-    omega (arith, low, end-high _ c.args.pattern c.args.end c.requires.end, c.end-end.ensures.end, c.end-end.ensures.small)
+    omega (arith, low, end-high _ c.args.pattern c.args.end c.requires.end, c.end-end.ensures.value, c.end-end.ensures.most)
 
 pub set_ends-requires-clause-end : goal.set_ends-requires-clause-end
-set_ends-requires-clause-end g c = omega (arith, end-high _ c.args.pattern c.args.end c.requires.end, c.end-end.ensures.end, c.end-end.ensures.small)
+set_ends-requires-clause-end g c = omega (arith, end-high _ c.args.pattern c.args.end c.requires.end, c.end-end.ensures.value, c.end-end.ensures.most)
 
 pub new-requires : goal.new-requires
 new-requires g c = start-before-end _ c.args.pattern c.in_ok-start.start c.args.end c.in_ok-start.ensures.start

@@ -8,7 +8,7 @@ use Rattle.rsc_engine.proofs.iterate.Rest.go_ahead.Goals as goal
 pub returns-in_default-clause-none : goal.returns-in_default-clause-none
 returns-in_default-clause-none g c =
     let at : c.start.result ≡ c.args.self.now.input.span.start =
-    c.start.ensures.start ∙ ap (λ (x : InputParts). x.span.start) c.take_ahead.ensures.input in
+    c.start.ensures.value ∙ ap (λ (x : InputParts). x.span.start) c.take_ahead.ensures.input in
     let whole = search_in g.W.WordClass.word_chars c.in_ok-ahead.ahead.program c.in_ok-ahead.ahead.input in
     subst (λ (e : Search). HasNone e) (ap (λ (n : ℕ). start_at whole n) at ∙ c.in_ok-ahead.ensures.left.1)
     (rw c.in_default.is at c.in_ok-found.ensures.none)

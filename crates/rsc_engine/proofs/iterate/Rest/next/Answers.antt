@@ -39,7 +39,7 @@ matches-preserved-then-repeats g c =
     let e = c.in-Ok-Some.ensures in
     let x : IsFirstMatch (search_in g.W.WordClass.word_chars c.matches.self.program.now c.matches.self.input) c.advance.new.captures c.in-Ok-Some.found =
     rw c.in-Ok-Some.field-0-is at e.found in
-    let next : c.end-end-in-Ok-Some.result + 1 ≡ c.in-Ok-Some.found.span.end + 1 = ap (λ n. n + 1) c.end-end-in-Ok-Some.ensures.end in
+    let next : c.end-end-in-Ok-Some.result + 1 ≡ c.in-Ok-Some.found.span.end + 1 = ap (λ n. n + 1) c.end-end-in-Ok-Some.ensures.value in
     record {
       turn = turn_repeat g.W.WordClass.word_chars c.args.self.now.program.now c.matches.self.program.now c.args.self.now.input c.matches.self.input
           c.args.self.now.last_end c.matches.self.last_end c.matches.invariant.turn
@@ -67,7 +67,7 @@ matches-preserved g c =
           on (ap (λ x. x.now) e.program) e.last
           c.set_start-then-splits.new.self c.after_split-next.result (c.splits.ensures.yes c.if-splits.true) (c.repeats.ensures.no c.if-repeats.false)
           c.after_split-next.ensures.anchored
-          (λ mode. c.after_split-next.ensures.free mode ∙ ap (λ n. n + 1) c.end-end-in-Ok-Some.ensures.end)
+          (λ mode. c.after_split-next.ensures.free mode ∙ ap (λ n. n + 1) c.end-end-in-Ok-Some.ensures.value)
           c.set_start-then-splits.ensures;
       program = e.program ∙ c.matches.invariant.program;
       groups = e.groups ∙ c.matches.invariant.groups;
@@ -81,7 +81,7 @@ invariant_of-self-then-splits g c =
     let on : c.advance.new.self.input ≡ from_start c.matches.self.input c.in-Ok-Some.found.span.end =
     rw c.in-Ok-Some.field-0-is at c.in-Ok-Some.ensures.on in
     let at : c.advance.new.self.input.span.start ≡ c.in-Ok-Some.found.span.end = ap (λ (x : InputParts). x.span.start) on in
-    let up : c.advance.new.self.input.span.start ≤ next = omega (arith, at, c.end-end-in-Ok-Some.ensures.end, c.after_split-next.ensures.on) in
+    let up : c.advance.new.self.input.span.start ≤ next = omega (arith, at, c.end-end-in-Ok-Some.ensures.value, c.after_split-next.ensures.on) in
     let start : c.set_start-then-splits.new.self.span.start ≡ next = ap (λ (x : InputParts). x.span.start) c.set_start-then-splits.ensures in
     record {
       table = c.advance.new.self.table;
@@ -96,7 +96,7 @@ invariant_of-self-then-repeats g c =
     let on : c.advance.new.self.input ≡ from_start c.matches.self.input c.in-Ok-Some.found.span.end =
     rw c.in-Ok-Some.field-0-is at c.in-Ok-Some.ensures.on in
     let at : c.advance.new.self.input.span.start ≡ c.in-Ok-Some.found.span.end = ap (λ (x : InputParts). x.span.start) on in
-    let up : c.advance.new.self.input.span.start ≤ next = omega (arith, at, c.end-end-in-Ok-Some.ensures.end) in
+    let up : c.advance.new.self.input.span.start ≤ next = omega (arith, at, c.end-end-in-Ok-Some.ensures.value) in
     let start : c.set_start-then-repeats.new.self.span.start ≡ next = ap (λ (x : InputParts). x.span.start) c.set_start-then-repeats.ensures in
     record {
       table = c.advance.new.self.table;
@@ -114,14 +114,14 @@ invariant_of-self-else-splits g c =
       left = c.advance.new.self.left;
       order = λ x is.
           let same : c.end-end-in-Ok-Some.result ≡ x = some_same c.end-end-in-Ok-Some.result x is in
-          omega (arith, same, at, c.end-end-in-Ok-Some.ensures.end);
+          omega (arith, same, at, c.end-end-in-Ok-Some.ensures.value);
     }
 
 pub invariant_of-self-in-Ok-None : goal.invariant_of-self-in-Ok-None
 invariant_of-self-in-Ok-None g c =
     let e = search_in g.W.WordClass.word_chars c.advance.new.self.program.now c.advance.new.self.input in
     let next = c.end-end.result + 1 in
-    let up : c.advance.new.self.input.span.start ≤ next = omega (arith, c.end-end.ensures.end, c.end-end.ensures.order) in
+    let up : c.advance.new.self.input.span.start ≤ next = omega (arith, c.end-end.ensures.value, c.end-end.ensures.order) in
     let start : c.set_start-in-Ok-None.new.self.span.start ≡ next = ap (λ (x : InputParts). x.span.start) c.set_start-in-Ok-None.ensures in
     record {
       table = c.advance.new.self.table;

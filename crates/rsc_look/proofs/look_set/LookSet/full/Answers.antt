@@ -2,4 +2,4 @@ use Rattle.rsc_look.proofs.LookSetLayoutLemmas.{looks_of_all, contains_looks_of_
 use Rattle.rsc_look.proofs.look_set.LookSet.full.Goals as goal
 
 pub returns : goal.returns
-returns c = record { value = looks_of_all; all = contains_looks_of_all }
+returns c = record { value = looks_of_all; members = contains_looks_of_all }

@@ -4,8 +4,8 @@ use Rattle.rsc_look.proofs.Prelude.{contains-joined, boundaries_of}
 use Rattle.rsc_look.proofs.KeepingLemmas.{IsExactFor-from}
 use Rattle.rsc_look.proofs.matcher.LookMatcher.add_to_byteset.Goals as goal
 
-pub returns-clause-at : goal.returns-clause-at
-returns-clause-at g c = rw (← c.get_line_terminator.ensures)
+pub returns-clause-members : goal.returns-clause-members
+returns-clause-members g c = rw (← c.get_line_terminator.ensures)
     (λ b. ap (λ s. sets.contains s b) c.add_boundaries.ensures ∙ contains-joined c.args.set.now (boundaries_of c.args.look c.get_line_terminator.result) b)
 
 pub returns-clause-exact : goal.returns-clause-exact

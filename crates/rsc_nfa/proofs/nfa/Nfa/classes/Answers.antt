@@ -4,15 +4,15 @@ use Rattle.rsc_alphabet.specs.Partitions.{class_map}
 use Rattle.rsc_nfa.proofs.ClassesLemmas.{KeepsRuns-from, HasBoundariesOfStates-from, IsEachNeeded-from, HasNoSpareBoundary-from}
 use Rattle.rsc_nfa.proofs.nfa.Nfa.classes.Goals as goal
 
-pub returns-clause-classes : goal.returns-clause-classes
-returns-clause-classes g c = c.byte_classes.ensures.map ∙ ap (λ s. class_map (sets.contains s)) c.boundaries-set.ensures.set
+pub returns-clause-value : goal.returns-clause-value
+returns-clause-value g c = c.byte_classes.ensures.value ∙ ap (λ s. class_map (sets.contains s)) c.boundaries-set.ensures.value
 
-pub returns-clause-kept : goal.returns-clause-kept
-returns-clause-kept g c = λ a.
+pub returns-clause-keeps_runs : goal.returns-clause-keeps_runs
+returns-clause-keeps_runs g c = λ a.
     KeepsRuns-from _ c.args.self.now.states c.args.self.now.matcher.0 (g.W.WordClass.word_chars c.args.self.now.matcher.1)
     (c.boundaries_part_a_range.ensures.together _)
     (λ l. c.boundaries_are_exact.ensures l _ _) (HasBoundariesOfStates-from c.args.self.now.states c.args.self.now.matcher.0) a c.byte_classes.result
-    (c.one_class_is_together.ensures _) (returns-clause-classes g c)
+    (c.one_class_is_together.ensures _) (returns-clause-value g c)
 
 pub returns-clause-needed : goal.returns-clause-needed
 returns-clause-needed g c = λ a.
@@ -20,7 +20,7 @@ returns-clause-needed g c = λ a.
     c.byte_classes.result c.boundaries_part_a_range.ensures.boundary
     (λ l. c.boundaries_are_exact.ensures l _ _) c.boundaries-set.ensures.faultless a (c.one_class_is_together.ensures _)
     -- not by the clause above, so that a body that breaks both is refused here too
-    (c.byte_classes.ensures.map ∙ ap (λ s. class_map (sets.contains s)) c.boundaries-set.ensures.set)
+    (c.byte_classes.ensures.value ∙ ap (λ s. class_map (sets.contains s)) c.boundaries-set.ensures.value)
 
 pub returns-clause-coarsest : goal.returns-clause-coarsest
 returns-clause-coarsest g c = λ none. HasNoSpareBoundary-from _ _ _ _ (returns-clause-needed g c (λ some. absurd (true≢false (sym some ∙ none))))

@@ -9,5 +9,5 @@ returns-clause-value g c =
     rw (c.block_at.ensures, c.as_slice.ensures.value, c.as_usize-p.ensures.value) at c.is_bit_set.ensures in
     rw (← c.self.view_is) (bit ∙ sym (has_member-set c.self.inside.capacity c.self.inside.blocks.items c.self.invariant.spare_clear c.args.pid))
 
-pub returns-clause-set : goal.returns-clause-set
-returns-clause-set g c = rw (← c.self.view_is) (is_set_below c.self.inside.capacity c.self.inside.blocks.items)
+pub returns-clause-lawful : goal.returns-clause-lawful
+returns-clause-lawful g c = rw (← c.self.view_is) (is_set_below c.self.inside.capacity c.self.inside.blocks.items)

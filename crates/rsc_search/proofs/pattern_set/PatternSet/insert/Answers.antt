@@ -21,11 +21,11 @@ returns-then-more-block g c =
     let with = (goal.at.returns-then-more-block g c).After-with_bit-more in
     let is = had g with c.if-more-block.true in
     rw (← c.self.view_is) (record {
-      set = with_one_more s.capacity s.blocks.items c.self.invariant.spare_clear _ _
+      value = with_one_more s.capacity s.blocks.items c.self.invariant.spare_clear _ _
           (same_at c.self.invariant _ _ (below g with) c.as_usize-p.ensures.value c.index-block.ensures c.with_bit-more.ensures.bits is);
       new = ap not (sym (has_member-set s.capacity s.blocks.items c.self.invariant.spare_clear c.args.pid ∙ is));
       len = refl;
-      most = members_within s.capacity s.blocks.items;
+      within = members_within s.capacity s.blocks.items;
     })
 
 pub overflow_add-self : goal.overflow_add-self
@@ -44,8 +44,8 @@ returns g c =
     let out = lacked g with c.if-more-block.false in
     let at = more_at c.self.invariant _ _ (below g with) c.as_usize-p.ensures.value c.index-block.ensures c.with_bit-more.ensures.bits in
     rw (← c.self.view_is) (record {
-      set = with_one_more s.capacity s.blocks.items c.self.invariant.spare_clear _ _ at;
+      value = with_one_more s.capacity s.blocks.items c.self.invariant.spare_clear _ _ at;
       new = ap not (sym (has_member-set s.capacity s.blocks.items c.self.invariant.spare_clear c.args.pid ∙ out));
       len = one_more_member s.capacity s.blocks.items c.self.invariant.spare_clear _ _ at (below g with) out;
-      most = members_within s.capacity _;
+      within = members_within s.capacity _;
     })

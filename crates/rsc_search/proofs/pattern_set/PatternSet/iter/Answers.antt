@@ -16,9 +16,9 @@ returns g c =
     c.block_at-2.type_inv c.block_at-2.ensures in
     let of_set : IsSet (patterns_held c.self.inside.capacity c.self.inside.blocks.items) = is_set_below c.self.inside.capacity c.self.inside.blocks.items in
     rw (← c.self.view_is, members) (record {
-      members = refl;
+      value = refl;
       ascending = of_set.ascending;
       below = of_set.below;
       contained = all_members (patterns_held c.self.inside.capacity c.self.inside.blocks.items).members;
-      set = of_set;
+      lawful = of_set;
     })

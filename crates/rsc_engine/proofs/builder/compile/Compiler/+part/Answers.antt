@@ -5,7 +5,7 @@ use Rattle.std.proofs.Math.Seq.{drop-length}
 use Rattle.rsc_captures.specs.Groups.{slot_number, group_count}
 use Rattle.rsc_engine.specs.Trees.{pattern_in}
 use Rattle.rsc_engine.proofs.TreesLemmas.{pattern-empty, pattern-never, pattern-class, pattern-literal, pattern-range, pattern-assertion, pattern-then, pattern-either}
-use Rattle.rsc_engine.proofs.CompileLemmas.{group-slots, Builds-range, Builds-assert, BuildsPart-empty, BuildsPart-then, BuildsPart-either, BuildsPart-group, BuildsPart-one_of, BuildsPart-nothing, drop-last, drop-one}
+use Rattle.rsc_engine.proofs.CompileLemmas.{group-slots, Builds-assert, BuildsPart-empty, BuildsPart-then, BuildsPart-either, BuildsPart-group, BuildsPart-one_of, BuildsPart-nothing, drop-last, drop-one}
 use Rattle.rsc_engine.proofs.LoopsLemmas.{BuildsCopies-none, BuildsCopies-more, BuildsCopies-up_to_none, BuildsCopies-up_to_more, BuildsPart-star, BuildsPart-again, BuildsPart-plus, BuildsPart-unlimited, BuildsPart-limited, BuildsPart-up_to, BuildsPart-zero, positive, more_than_one}
 use denote.Param.Weighed.{at_most}
 use Rattle.rsc_engine.proofs.builder.tree.Tree.TheLaws.{the_size}
@@ -58,12 +58,12 @@ copies-loop-done-preserved t c = rw add-one (BuildsCopies-more _ _ _ _ _ _ _ _ _
 
 pub part-returns-in-Range : goal.part-returns-in-Range
 part-returns-in-Range t c =
-    built-weaker c.add.result _ _ (λ id a. rw (c.in-Range.is, pattern-range) (omega arith, Builds-range _ _ _ _ _ id _ a, a.one)) c.add.ensures
+    built-with c.range.result _ _ _ (λ id a size. rw (c.in-Range.is, pattern-range) (omega arith, a _, size)) c.range.ensures.builds c.range.ensures.size
 
 pub part-returns-in-Assertion : goal.part-returns-in-Assertion
 part-returns-in-Assertion t c =
-    built-weaker c.add-in-Assertion.result _ _ (λ id a. rw (c.in-Assertion.is, pattern-assertion) (omega arith, Builds-assert _ _ _ _ id _ a, a.one))
-    c.add-in-Assertion.ensures
+    built-weaker c.add.result _ _ (λ id a. rw (c.in-Assertion.is, pattern-assertion) (omega arith, Builds-assert _ _ _ _ id _ a, a.one))
+    c.add.ensures
 
 pub part-returns-in_ok-middle-in-Then : goal.part-returns-in_ok-middle-in-Then
 part-returns-in_ok-middle-in-Then t c =

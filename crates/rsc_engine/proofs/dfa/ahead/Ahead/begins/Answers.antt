@@ -12,10 +12,10 @@ index-requires-2 g c =
     let log = c.self.inside.log.items in
     let low : c.self.inside.input.span.start ≤ c.args.at = rw (← c.self.view_is) at c.requires.low in
     let high : c.args.at ≤ c.self.inside.input.span.end = rw (← c.self.view_is) at c.requires.high in
-    let within = begins-within e c.args.at c.end.result rows log c.end.ensures.end low high c.self.invariant in
+    let within = begins-within e c.args.at c.end.result rows log c.end.ensures.value low high c.self.invariant in
     let read : get_or log (c.end.result + 1 - c.args.at) 0 ≡ c.index.result.now =
     get_or_default log (c.end.result + 1 - c.args.at) 0 c.index.result.now within ∙ sym c.index.ensures in
-    omega (arith, read, begins-row e c.args.at c.end.result rows log c.end.ensures.end low high c.self.invariant, c.self.inside.table.rows.ok)
+    omega (arith, read, begins-row e c.args.at c.end.result rows log c.end.ensures.value low high c.self.invariant, c.self.inside.table.rows.ok)
 
 pub returns-clause-yes : goal.returns-clause-yes
 returns-clause-yes g c =
@@ -24,15 +24,15 @@ returns-clause-yes g c =
     let log = c.self.inside.log.items in
     let low : c.self.inside.input.span.start ≤ c.args.at = rw (← c.self.view_is) at c.requires.low in
     let high : c.args.at ≤ c.self.inside.input.span.end = rw (← c.self.view_is) at c.requires.high in
-    let within = begins-within e c.args.at c.end.result rows log c.end.ensures.end low high c.self.invariant in
+    let within = begins-within e c.args.at c.end.result rows log c.end.ensures.value low high c.self.invariant in
     let read : get_or log (c.end.result + 1 - c.args.at) 0 ≡ c.index.result.now =
     get_or_default log (c.end.result + 1 - c.args.at) 0 c.index.result.now within ∙ sym c.index.ensures in
-    let below = begins-row e c.args.at c.end.result rows log c.end.ensures.end low high c.self.invariant in
+    let below = begins-row e c.args.at c.end.result rows log c.end.ensures.value low high c.self.invariant in
     let there : slice_get rows (get_or log (c.end.result + 1 - c.args.at) 0) ≡ Some c.index-2.result.now =
     subst (λ (k : ℕ). slice_get rows k ≡ Some c.index-2.result.now) (sym read)
     (slice_get_read rows (length rows) c.index.result.now c.index-2.result.now refl (omega (arith, read, below)) c.index-2.ensures) in
     rw (← c.self.view_is)
-    (begins-as e c.args.at c.end.result rows log c.end.ensures.end low high c.self.invariant c.index-2.result.now there).yes
+    (begins-as e c.args.at c.end.result rows log c.end.ensures.value low high c.self.invariant c.index-2.result.now there).yes
 
 pub returns-clause-no : goal.returns-clause-no
 returns-clause-no g c =
@@ -41,12 +41,12 @@ returns-clause-no g c =
     let log = c.self.inside.log.items in
     let low : c.self.inside.input.span.start ≤ c.args.at = rw (← c.self.view_is) at c.requires.low in
     let high : c.args.at ≤ c.self.inside.input.span.end = rw (← c.self.view_is) at c.requires.high in
-    let within = begins-within e c.args.at c.end.result rows log c.end.ensures.end low high c.self.invariant in
+    let within = begins-within e c.args.at c.end.result rows log c.end.ensures.value low high c.self.invariant in
     let read : get_or log (c.end.result + 1 - c.args.at) 0 ≡ c.index.result.now =
     get_or_default log (c.end.result + 1 - c.args.at) 0 c.index.result.now within ∙ sym c.index.ensures in
-    let below = begins-row e c.args.at c.end.result rows log c.end.ensures.end low high c.self.invariant in
+    let below = begins-row e c.args.at c.end.result rows log c.end.ensures.value low high c.self.invariant in
     let there : slice_get rows (get_or log (c.end.result + 1 - c.args.at) 0) ≡ Some c.index-2.result.now =
     subst (λ (k : ℕ). slice_get rows k ≡ Some c.index-2.result.now) (sym read)
     (slice_get_read rows (length rows) c.index.result.now c.index-2.result.now refl (omega (arith, read, below)) c.index-2.ensures) in
     rw (← c.self.view_is)
-    (begins-as e c.args.at c.end.result rows log c.end.ensures.end low high c.self.invariant c.index-2.result.now there).no
+    (begins-as e c.args.at c.end.result rows log c.end.ensures.value low high c.self.invariant c.index-2.result.now there).no

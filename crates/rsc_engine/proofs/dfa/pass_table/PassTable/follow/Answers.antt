@@ -2,7 +2,7 @@ use Rattle.std.proofs.Common.{◌≡◌, ◌+◌, ◌∙◌, Some, None, ℕ, Op
 use Rattle.rsc_look.specs.Holds.{byte_after}
 use Rattle.rsc_engine.specs.Searches.{search_in}
 use Rattle.rsc_engine.specs.RowsLayout.{machine}
-use Rattle.rsc_engine.specs.ForwardLayout.{StandsInEach, last_with, pattern_in}
+use Rattle.rsc_engine.specs.ForwardLayout.{StandsInEach, last_with, found_in}
 use Rattle.rsc_engine.specs.PassTableLayout.{IsPassTo}
 use Rattle.rsc_engine.proofs.ForwardLayoutLemmas.{each-forward, each-on}
 use Rattle.rsc_engine.proofs.PassTableLayoutLemmas.{unmarked-none}
@@ -17,7 +17,7 @@ bytes-preserved g c =
     let after : byte_after c.args.input.now.haystack c.bytes.position ≡ Some c.byte_at.result =
     rw c.haystack-haystack.ensures.bytes at c.byte_at.ensures.after in
     let on : (next : ℕ) → IsPassTo (machine g.W.WordClass.word_chars c.args.plan.now.program.now) classes rows rows c.bytes.here (Some c.byte_at.result) next
-    → StandsInEach e classes rows next (c.bytes.position + 1) (last_with (pattern_in (slice_get rows next)) c.bytes.position c.bytes.found) =
+    → StandsInEach e classes rows next (c.bytes.position + 1) (last_with (found_in (slice_get rows next)) c.bytes.position c.bytes.found) =
     λ next to. each-on e classes rows rows c.bytes.here c.bytes.position next c.bytes.found
     (each-forward e classes c.args.plan.now.width c.args.plan.now.unicode
     record { laws = c.steps_are_lawful.ensures; plan = c.requires.plan; within = c.haystack-haystack.ensures.within }
@@ -26,7 +26,7 @@ bytes-preserved g c =
     c.bytes.invariant.on in
     elim c.match-lead_of.branch [
       | in-To w ↦
-          let none : pattern_in (slice_get rows w.in-To.next) ≡ None = unmarked-none (slice_get rows w.in-To.next) w.in-To.ensures.plain in
+          let none : found_in (slice_get rows w.in-To.next) ≡ None = unmarked-none (slice_get rows w.in-To.next) w.in-To.ensures.plain in
           record {
             on = rw (w.here-is, w.found-is) (rw none at (on w.in-To.next w.in-To.ensures.row));
             none = λ is. w.found-is ∙ c.bytes.invariant.none is;
@@ -43,6 +43,6 @@ bytes-preserved g c =
 
 pub returns-clause-on : goal.returns-clause-on
 returns-clause-on g c =
-    let here : c.bytes.position ≡ c.end-end.result = omega (arith, c.bytes-test.false, c.bytes.auto.position-end, c.requires.end, c.end-end.ensures.end) in
+    let here : c.bytes.position ≡ c.end-end.result = omega (arith, c.bytes-test.false, c.bytes.auto.position-end, c.requires.end, c.end-end.ensures.value) in
     subst (λ (i : ℕ). StandsInEach (search_in g.W.WordClass.word_chars c.args.plan.now.program.now c.args.input.now) c.args.plan.now.classes
     c.args.self.now.rows.items c.bytes.here i c.bytes.found) here c.bytes.invariant.on

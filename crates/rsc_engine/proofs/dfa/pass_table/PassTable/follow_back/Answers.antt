@@ -39,7 +39,7 @@ bytes-preserved-in-Continue-1 g c =
           rows rows c.bytes.here c.bytes.position c.in-To.next c.bytes.invariant.start high led) c.bytes.invariant.on;
       row = slice_get_within rows c.in-To.next led.leads.is_row.to led.leads.is_row.there;
       further = omega (arith, c.bytes.invariant.further);
-      start = omega (arith, c.bytes-test.true, c.start-start.ensures.start);
+      start = omega (arith, c.bytes-test.true, c.start-start.ensures.value);
     }
 
 pub bytes-preserved : goal.bytes-preserved
@@ -63,5 +63,5 @@ bytes-preserved g c =
           rows rows c.bytes.here c.bytes.position c.in-Marked.next c.bytes.invariant.start high led) c.bytes.invariant.on;
       row = slice_get_within rows c.in-Marked.next led.leads.is_row.to led.leads.is_row.there;
       further = omega (arith, c.bytes.invariant.further);
-      start = omega (arith, c.bytes-test.true, c.start-start.ensures.start);
+      start = omega (arith, c.bytes-test.true, c.start-start.ensures.value);
     }

@@ -15,11 +15,11 @@ returns-clause-plan g c =
     record {
       groups = p.automaton.groups;
       faultless = faultless;
-      there = subst (λ (s : ℕ). s < length p.automaton.states) c.start-start.ensures.start c.start-start.ensures.there;
+      there = subst (λ (s : ℕ). s < length p.automaton.states) c.start-start.ensures.value c.start-start.ensures.within;
       looks = looks;
-      keeps = (rw c.nfa-nfa.ensures at c.classes_with-classes.ensures.kept) (λ _. agreed);
+      keeps = (rw c.nfa-nfa.ensures at c.classes_with-classes.ensures.keeps_runs) (λ _. agreed);
       agreed = agreed;
-      parted = λ is. parted _ c.classes_with-classes.result c.classes_with-classes.ensures.classes
+      parted = λ is. parted _ c.classes_with-classes.result c.classes_with-classes.ensures.value
           (c.classes_with-classes.ensures.parted 127 (omega arith) (c.past_ascii.ensures (looks ∙ is)));
       columns = c.alphabet_len-width.ensures.value;
       bounded = c.classes_with-classes.ensures.bounded;

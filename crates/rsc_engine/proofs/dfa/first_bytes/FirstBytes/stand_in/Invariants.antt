@@ -1,0 +1,6 @@
+use Rattle.std.proofs.Common.{◌≡◌, false}
+use Rattle.rsc_engine.specs.FirstBytesLayout.{LacksFirst}
+use Rattle.rsc_engine.proofs.dfa.first_bytes.FirstBytes.stand_in.Given as goal
+
+abbrev pub invariant-bytes : goal.invariant-bytes
+invariant-bytes l = l.found ≡ false → LacksFirst l.self.range l.haystack l.start l.i

@@ -1,0 +1,59 @@
+"""The names of clauses that are settled (CONTRIBUTING.md, 'What a new public call needs'): which names a clause may have by what it says. gate/pages.py imports
+it."""
+import collections
+import re
+
+from calling import ROOT, sources
+from heads import source_of
+from typed import LIBRARIES
+
+# What a clause begins with, and the names that it may have if it isn't alone.
+SETTLED = (
+    (r"IfErr result ", ("refused", "error")),
+    (r"OnErr result \((\w+)\.new ≡ \1\.old\)|¬ \(IsTrue result\) → (\w+)\.new ≡ \2\.old|(\w+)\.new ≡ \3\.old", ("kept",)),
+    (r"result ≡ (?!\S+ →)|(?:self|set)\.new ≡ sets\.", ("value", "new")),
+    (r"\((\w+) : \w+\) → (?:\w+ < 256 → )?sets\.contains (?:result|self\.new|set\.new) \1 ≡ (?!true →)", ("members",)),
+    (r"IsIndex (?:result|self\.now)$", ("within",)),
+)
+
+
+def clauses_of(signature):
+    """Returns the clauses of a signature: the name, or none, and what it says.
+
+    >>> clauses_of("fn one()\\n    requires { a }\\n    ensures { b }\\n    ensures c { d\\n        e }")
+    [('', 'b'), ('c', 'd e')]
+    """
+    found = [re.match(r"ensures\*? ?(\w*) \{ (.*) \}$", " ".join(it.split())) for it in re.split(r"\n +(?=ensures|requires)", signature.strip())[1:]]
+    return [it.groups() for it in found if it]
+
+
+def unsettled(signature):
+    """Yields the names of clauses that say what has a settled name under another one, with that name.
+
+    >>> [*unsettled("fn one()\\n    ensures it { result ≡ 1 }\\n    ensures most { result < 2 }"), *unsettled("fn one()\\n    ensures { result ≡ 1 }")]
+    [('it', 'value or new')]
+    """
+    clauses = clauses_of(signature)
+    for name, said in clauses:
+        for begins, names in SETTLED:
+            if re.match(begins, said) and name not in names and len(clauses) > 1:
+                yield name, " or ".join(names)
+                break
+
+
+def clause_faults():
+    """Yields for each source of a library the clauses of its functions, but of laws, that have another name than the settled one."""
+    for crate in LIBRARIES:
+        for path, text in sources(crate):
+            found = [(it.name, *fault) for it in source_of(text).functions if path.parts[0] not in ("laws", "laws.rt") for fault in unsettled(it.signature)]
+            yield [f"{crate}/src/{path}: a clause of `{it}` is called `{name}` instead of `{settled}`" for it, name, settled in found]
+
+
+def name_faults():
+    """Yields for each crate with definitions the names that two files of its specs/ have."""
+    for folder in sorted((ROOT / "crates").glob("*/specs")):
+        found = collections.defaultdict(list)
+        for file in sorted(folder.glob("**/*.antt")):
+            for name in re.findall(r"^(?:abbrev |unfoldable )*pub (?:record |data )?(?!mod )([^\s:]+)", file.read_text(encoding="utf-8"), flags=re.M):
+                found[name].append(file.stem)
+        yield [f"{folder.parent.name}: {' and '.join(files)} have a definition called `{name}`" for name, files in found.items() if len(files) > 1]
