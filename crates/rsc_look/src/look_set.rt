@@ -197,6 +197,25 @@ impl LookSet {
         self.bits & look.as_repr() != 0
     }
 
+    /// Whether each member is a member of another set too.
+    ///
+    /// With [`LookMatcher::holding`](crate::LookMatcher::holding) it tells whether all of them hold at a position.
+    ///
+    /// # Examples
+    ///
+    /// ```
+    /// let matcher = LookMatcher::new(UnicodeWord);
+    /// let line = LookSet::singleton(Look::StartLF).insert(Look::EndLF);
+    /// assert!(rt; line.is_subset_of(matcher.holding(b"a\n\nb", 2)));
+    /// assert!(rt; !line.is_subset_of(matcher.holding(b"a\n\nb", 1)));
+    /// ```
+    #[inline]
+    pub fn is_subset_of(self, other: LookSet) -> bool
+        ensures { IsTrue result ↔ ((look : Look) → sets.contains self look ≡ true → sets.contains other look ≡ true) }
+    {
+        self.subtract(other).is_empty()
+    }
+
     /// The members, by ascending number.
     #[inline]
     pub fn iter(self) -> LookSetIter

@@ -202,6 +202,24 @@ pub fn starts<W: WordClass>(matcher: &LookMatcher<W>, haystack: &[u8], at: usize
     )
 }
 
+/// Whether all assertions of one set hold at a position, and whether all of another do: each side of the position is read once.
+pub fn hold_all<W: WordClass>(
+    matcher: &LookMatcher<W>,
+    one: LookSet,
+    other: LookSet,
+    haystack: &[u8],
+    at: usize,
+) -> (bool, bool)
+    requires { at ≤ length haystack.now }
+    ensures one { IsTrue result.0 ↔ ((look : Look) → sets.contains one look ≡ true →
+        Holds look matcher.now.0 (W.word_chars matcher.now.1) haystack.now at) }
+    ensures other { IsTrue result.1 ↔ ((look : Look) → sets.contains other look ≡ true →
+        Holds look matcher.now.0 (W.word_chars matcher.now.1) haystack.now at) }
+{
+    let holding = matcher.holding(haystack, at);
+    (one.is_subset_of(holding), other.is_subset_of(holding))
+}
+
 /// What an entry of a table says of an assertion about bytes: whether it holds after the byte of the row, before the unit of the column.
 pub fn holds_in_entry<W: WordClass>(
     matcher: &LookMatcher<W>,

@@ -152,6 +152,14 @@ fn sets_of_assertions(rt: HostRuntime) {
     assert!(rt; bits == [13, 4, 8, 8] && bits_when_joined(lines, starts) == [13, 1, 1]);
     let is_empty = LookSet::full().subtract(LookSet::full()).is_empty();
     assert!(rt; is_empty && !LookSet::singleton(Look::Start).is_empty());
+    let subsets = [
+        lines.is_subset_of(lines),
+        lines.remove(Look::EndLF).is_subset_of(starts),
+        lines.is_subset_of(starts),
+        LookSet::full().is_subset_of(lines),
+        LookSet::empty().is_subset_of(LookSet::empty()),
+    ];
+    assert!(rt; subsets == [true, true, false, false, true]);
     let is_available = LookSet::full().available().is_ok();
     assert!(rt; is_available && UnicodeWordBoundaryError::check().is_ok());
 }
