@@ -109,6 +109,8 @@ fn a_long_text_is_read_along_known_rows(rt: HostRuntime) -> Result<(), Fail> {
     let mut dfa = Dfa::new(rt.alloc(), &program, 1000);
     assert!(rt; !dfa.is_match(&Input::new(text.as_slice()))?);
     Ok(())
+}
+
 #[test]
 fn a_text_without_a_first_byte_is_looked_through(rt: HostRuntime) -> Result<(), Fail> {
     // `[A-Z]`
@@ -121,8 +123,6 @@ fn a_text_without_a_first_byte_is_looked_through(rt: HostRuntime) -> Result<(), 
         assert!(rt; !dfa.is_match(&Input::new(text.as_slice()))?);
     }
     Ok(())
-}
-
 }
 
 // `[a-z]{1,60}`
