@@ -1,11 +1,5 @@
 //! The arguments of `looks` and `classes`.
-ghost use Rattle.std.specs.Prelude.{◌≡◌, ◌≤◌, ◌∷◌, ◌++◌, ℕ, List, All, IfOk, IfSome, Ok, Some, false, map};
-ghost use Rattle.std.specs.String.{string_bytes};
-ghost use Rattle.hex.specs.Hex.{decode_of};
-ghost use Rattle.rsc_show.specs.declared.arguments.Haystack.{Haystack};
-ghost use Rattle.rsc_show.specs.declared.arguments.Next.{Next};
-ghost use Rattle.rsc_show.specs.Listed.{haystack_arguments, IsGiven, listed};
-ghost use Rattle.rsc_show.specs.ListedLayout.{left_of, SoFar};
+ghost use Rattle.std.specs.Prelude.{◌≡◌};
 
 use crate::choices::{Color, WordPredicate, color_of, word_predicate_of};
 use crate::error::{ShowError, refused, refused_value};
@@ -88,11 +82,7 @@ impl Request {
 /// # Errors
 ///
 /// [`ShowError::Usage`] at the first argument that is not what was expected.
-pub fn parse(alloc: Global, arguments: &[String]) -> Result<Request, ShowError>
-    ensures ranges { IfOk result (λ request. All (λ r. r.0 ≤ r.1) request.ranges.items) }
-    ensures looks { IfOk result (λ request. request.looks.items ≡ listed false (map (λ a. string_bytes a) arguments.now)) }
-    ensures haystack { IfOk result (λ request. IsGiven (haystack_arguments false (map (λ a. string_bytes a) arguments.now)) request.haystack) }
-{
+pub fn parse(alloc: Global, arguments: &[String]) -> Result<Request, ShowError> {
     let mut request = Request {
         terminator: b'\n',
         word_predicate: WordPredicate::Unicode,
@@ -119,13 +109,12 @@ pub fn parse(alloc: Global, arguments: &[String]) -> Result<Request, ShowError>
 }
 
 // Takes an argument, and says what the next one is.
-fn take(alloc: Global, request: &mut Request, next: Next, argument: &str) -> Result<Next, ShowError>
-    ensures ranges { All (λ r. r.0 ≤ r.1) request.old.ranges.items → All (λ r. r.0 ≤ r.1) request.new.ranges.items }
-    ensures looks { IfOk result (λ after. (rest : List (List ℕ)) →
-        request.new.looks.items ++ left_of after rest ≡ request.old.looks.items ++ left_of next (argument.now ∷ rest)) }
-    ensures haystack { (h rest : List (List ℕ)) → SoFar next h (argument.now ∷ rest) request.old.haystack →
-        IfOk result (λ after. SoFar after h rest request.new.haystack) }
-{
+fn take(
+    alloc: Global,
+    request: &mut Request,
+    next: Next,
+    argument: &str,
+) -> Result<Next, ShowError> {
     match next {
         Next::Plain => take_plain(alloc, request, argument),
         Next::Terminator => {
@@ -168,9 +157,7 @@ fn expect<T: Drop>(
     option: &str,
     argument: &str,
     expected: &str,
-) -> Result<T, ShowError>
-    ensures { IfOk result (λ value. found ≡ Some value) }
-{
+) -> Result<T, ShowError> {
     match found {
         Some(value) => Ok(value),
         None => Err(refused_value(alloc, option, argument, expected)),
@@ -178,13 +165,7 @@ fn expect<T: Drop>(
 }
 
 // Takes an option's name, or an assertion.
-fn take_plain(alloc: Global, request: &mut Request, argument: &str) -> Result<Next, ShowError>
-    ensures ranges { request.new.ranges.items ≡ request.old.ranges.items }
-    ensures looks { IfOk result (λ after. (rest : List (List ℕ)) →
-        request.new.looks.items ++ left_of after rest ≡ request.old.looks.items ++ listed false (argument.now ∷ rest)) }
-    ensures haystack { (h rest : List (List ℕ)) → SoFar Next.Plain h (argument.now ∷ rest) request.old.haystack →
-        IfOk result (λ after. SoFar after h rest request.new.haystack) }
-{
+fn take_plain(alloc: Global, request: &mut Request, argument: &str) -> Result<Next, ShowError> {
     if argument == "-" {
         request.haystack = Haystack::Standard;
         return Ok(Next::Nothing);
@@ -208,11 +189,7 @@ fn take_plain(alloc: Global, request: &mut Request, argument: &str) -> Result<Ne
 }
 
 // What comes after an option.
-fn after_option(argument: &str) -> Option<Next>
-    ensures looks { IfSome result (λ after. (rest : List (List ℕ)) → left_of after rest ≡ listed false (argument.now ∷ rest)) }
-    ensures haystack { IfSome result (λ after. (h rest : List (List ℕ)) (so_far : Haystack) →
-        SoFar Next.Plain h (argument.now ∷ rest) so_far → SoFar after h rest so_far) }
-{
+fn after_option(argument: &str) -> Option<Next> {
     if argument == "--terminator" {
         Some(Next::Terminator)
     } else if argument == "--words" {
@@ -231,9 +208,7 @@ fn after_option(argument: &str) -> Option<Next>
 }
 
 // The bytes that pairs of hexadecimal digits write.
-fn bytes_of(alloc: Global, argument: &str) -> Result<Vec<u8>, ShowError>
-    ensures { IfOk result (λ bytes. decode_of argument.now ≡ Ok bytes.items) }
-{
+fn bytes_of(alloc: Global, argument: &str) -> Result<Vec<u8>, ShowError> {
     let bytes = parse_bytes(alloc, argument.as_bytes())?;
     expect(alloc, bytes, "--hex", argument, EXPECTED_BYTES)
 }

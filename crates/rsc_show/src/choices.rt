@@ -1,12 +1,7 @@
 //! What the arguments choose: word characters, and when to use colour.
-ghost use Rattle.std.specs.Prelude.{◌≡◌, ◌↔◌, ℕ, Bool, Some};
-ghost use Rattle.rsc_primitives.specs.Utf8.{is_word_byte};
-ghost use Rattle.rsc_look.specs.Words.{is_unicode_word};
 ghost use Rattle.rsc_look.specs.Keeping.{AgreesWithAscii};
 ghost use Rattle.rsc_show.specs.declared.choices.WordPredicate.{WordPredicate};
-ghost use Rattle.rsc_show.specs.Chosen.{chosen_word_chars, is_colored};
-ghost use Rattle.rsc_show.specs.Names.{word_predicate_name, color_name};
-ghost use Rattle.rsc_show.specs.declared.choices.Color.{Color};
+ghost use Rattle.rsc_show.specs.Chosen.{chosen_word_chars};
 
 use rsc_look::{AsciiWord, UnicodeWord, WordClass};
 
@@ -36,9 +31,7 @@ pub fn word_predicates_agree()
 {}
 
 /// The choice that an argument names.
-pub fn word_predicate_of(argument: &str) -> Option<WordPredicate>
-    ensures { (predicate : WordPredicate) → (result ≡ Some predicate) ↔ (argument.now ≡ word_predicate_name predicate) }
-{
+pub fn word_predicate_of(argument: &str) -> Option<WordPredicate> {
     if argument == "ascii" {
         Some(WordPredicate::Ascii)
     } else if argument == "unicode" {
@@ -61,9 +54,7 @@ pub enum Color {
 
 impl Color {
     /// Whether to use colour, for an output that wants it or not.
-    pub fn is_used(self, wanted: bool) -> bool
-        ensures { result ≡ is_colored self wanted }
-    {
+    pub fn is_used(self, wanted: bool) -> bool {
         match self {
             Color::Auto => wanted,
             Color::Always => true,
@@ -73,9 +64,7 @@ impl Color {
 }
 
 /// The choice that an argument names.
-pub fn color_of(argument: &str) -> Option<Color>
-    ensures { (color : Color) → (result ≡ Some color) ↔ (argument.now ≡ color_name color) }
-{
+pub fn color_of(argument: &str) -> Option<Color> {
     if argument == "auto" {
         Some(Color::Auto)
     } else if argument == "always" {

@@ -1,6 +1,4 @@
 //! What stops the program.
-ghost use Rattle.std.specs.Prelude.{◌≡◌};
-ghost use Rattle.rsc_show.specs.Statuses.{status_of};
 
 use crate::text::Page;
 use std::alloc::{AllocError, AllocFailed, Global};
@@ -41,9 +39,7 @@ impl ShowError {
     }
 
     /// The status with which the program ends: 3 for a refused list, 2 for arguments, and 1 for what failed.
-    pub fn status(&self) -> u8
-        ensures { result ≡ status_of self.now }
-    {
+    pub fn status(&self) -> u8 {
         match self {
             ShowError::ListRefused => 3,
             ShowError::Usage(_) | ShowError::NotUtf8 => 2,

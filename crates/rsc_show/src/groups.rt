@@ -1,9 +1,4 @@
 //! The command `groups`: the slots of each group, or why the list is refused, and where the group at fault is written.
-ghost use Rattle.std.specs.Prelude.{◌≡◌, ◌≢◌, ◌≤◌, ◌<◌, ◌+◌, ◌↔◌, ℕ, false, IsTrue, length, take, slice_index_or, IfSome, IsNone, None};
-ghost use Rattle.std.specs.Option.{option_copied};
-ghost use Rattle.rsc_captures.specs.Groups.{groups_in, has_name};
-ghost use Rattle.rsc_show.specs.Pointers.{group_after, IsSecond, reached};
-ghost use Rattle.rsc_show.specs.PointersLayout.{IsFirstNamed};
 
 use crate::error::{ShowError, refused};
 use crate::text::Page;
@@ -102,49 +97,33 @@ fn repeat_of(patterns: &[&[Option<&str>]], pattern: usize, name: &str) -> usize 
     }
 }
 
-/// The second group that has a name, where one has.
-pub fn second_of(groups: &[Option<&str>], name: &str) -> Option<usize>
-    ensures some { IfSome result (λ g. IsSecond (groups_in groups.now) name.now g) }
-    ensures none { IsNone result → (g : ℕ) → ¬ (IsSecond (groups_in groups.now) name.now g) }
-{
-    let first = named_from(groups, name, 0)?;
-    named_from(groups, name, first + 1)
-}
-
-// The first group from one on that has a name.
-fn named_from(groups: &[Option<&str>], name: &str, from: usize) -> Option<usize>
-    ensures some { IfSome result (λ g. IsFirstNamed (groups_in groups.now) name.now from g) }
-    ensures none { IsNone result → (g : ℕ) → from ≤ g → g < length groups.now →
-        has_name name.now (slice_index_or (groups_in groups.now) g None) ≡ false }
-{
-    for index in from..groups.len() {
-        let group = groups[index];
-        if has_name(group, name) {
-            return Some(index);
+// The second group that has a name, where one has.
+fn second_of(groups: &[Option<&str>], name: &str) -> Option<usize> {
+    let mut is_repeated = false;
+    for index in 0..groups.len() {
+        if has_name(groups[index], name) {
+            if is_repeated {
+                return Some(index);
+            }
+            is_repeated = true;
         }
     }
     None
 }
 
 // Whether a group has a name.
-fn has_name(group: Option<&str>, name: &str) -> bool
-    ensures { result ≡ has_name name.now (option_copied group.entry) }
-{
+fn has_name(group: Option<&str>, name: &str) -> bool {
     match group {
         Some(own) => name == own,
         None => false,
     }
 }
 
-/// Where a group of a pattern begins in the text of the lists, or the text's length where it has no such group.
-pub fn index_in_text(lists: &[u8], pattern: usize, group: usize) -> usize
-    ensures within { result ≤ length lists.now }
-    ensures reached { result < length lists.now → reached (0, 0) (take result lists.now) ≡ (pattern, group) }
-    ensures first { (k : ℕ) → k < result → reached (0, 0) (take k lists.now) ≢ (pattern, group) }
-{
+// Where a group of a pattern begins in the text of the lists, or the text's length where it has no such group.
+fn index_in_text(lists: &[u8], pattern: usize, group: usize) -> usize {
     let mut at = (0, 0);
     for index in 0..lists.len() {
-        if is_at(at, pattern, group) {
+        if at.0 == pattern && at.1 == group {
             return index;
         }
         at = group_after(at, lists[index]);
@@ -152,21 +131,11 @@ pub fn index_in_text(lists: &[u8], pattern: usize, group: usize) -> usize
     lists.len()
 }
 
-// Whether a text has reached a group of a pattern.
-fn is_at(at: (usize, usize), pattern: usize, group: usize) -> bool
-    ensures { IsTrue result ↔ (at ≡ (pattern, group)) }
-{
-    at.0 == pattern && at.1 == group
-}
-
-// What a text reaches with one more byte.
-fn group_after(at: (usize, usize), byte: u8) -> (usize, usize)
-    requires { at.0 + at.1 < usize.MAX }
-    ensures { result ≡ group_after at byte }
-{
+// The pattern and the group that a text reaches with one more byte.
+fn group_after(at: (usize, usize), byte: u8) -> (usize, usize) {
     match byte {
-        b';' => (at.0 + 1, 0),
-        b',' => (at.0, at.1 + 1),
+        b';' => (at.0.saturating_add(1), 0),
+        b',' => (at.0, at.1.saturating_add(1)),
         _ => at,
     }
 }

@@ -1,7 +1,5 @@
 //! Text that is put together from the cells of aligned tables.
-ghost use Rattle.std.specs.Prelude.{◌≡◌, ◌<◌, ◌≤◌, IfOk, chars, false, true};
-ghost use Rattle.std.specs.String.{string_bytes};
-ghost use Rattle.unicode_width.specs.Width.{str_width};
+ghost use Rattle.std.specs.Prelude.{◌≡◌, ◌<◌, ◌≤◌, true};
 ghost use Rattle.rsc_look.specs.Words.{is_unicode_word};
 
 use rsc_look::{UnicodeWord, WordClass};
@@ -88,9 +86,7 @@ impl Page {
     }
 
     // Appends a page. What it lacks is missing here as well.
-    fn push_page(&mut self, page: &Page)
-        ensures { page.now.is_refused ≡ true → self.new.is_refused ≡ true }
-    {
+    fn push_page(&mut self, page: &Page) {
         self.push_str(page.text.as_str());
         if page.is_refused {
             self.is_refused = true;
@@ -98,9 +94,7 @@ impl Page {
     }
 
     // How many columns it takes in a terminal.
-    fn columns(&self) -> usize
-        ensures { result ≡ str_width false (chars (string_bytes self.now.text)) }
-    {
+    fn columns(&self) -> usize {
         self.text.as_str().width()
     }
 
@@ -117,9 +111,7 @@ impl Page {
     /// # Errors
     ///
     /// [`AllocError`] where memory for a part of it was refused.
-    pub fn finish(self) -> Result<String, AllocError>
-        ensures { IfOk result (λ text. self.is_refused ≡ false) }
-    {
+    pub fn finish(self) -> Result<String, AllocError> {
         if self.is_refused {
             return Err(AllocError);
         }
