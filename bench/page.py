@@ -4,6 +4,7 @@ workload's ratio on a logarithmic scale, by crate.
 
     bench/page.py [THEIRS OURS]     # two files of lines `name ns`, as bench.sh leaves them; without them only counts and picture are regenerated
     bench/page.py COUNTS            # a file of lines `name theirs ours`, as instructions.py prints them
+    bench/page.py --second THEIRS OURS    # the times of the second toolchain, of which the table has the ratios
 
 A workload that was measured or counted replaces its row; a new one gets the crate of the workload measured before it, and must have one. A workload whose time is a difference of
 less than a quarter of a cycle is left out.
@@ -16,6 +17,7 @@ from table import least
 
 DOCS = pathlib.Path(__file__).resolve().parent.parent / "docs"
 COUNTS = ["theirs, instructions", "ours, instructions", "ratio of instructions"]
+SECOND = 8
 LEFT, WIDTH, HEIGHT, LOW, HIGH = 330, 600, 11, -5, 3  # the ratios from 1/32 to 8
 
 
@@ -49,15 +51,20 @@ def with_counts(rows, path):
         # More than twenty in a nanosecond is none of the operation: what came before it, or memory filled by one instruction that is counted for each byte.
         is_count = min(theirs, ours) > 0 and theirs <= 20 * float(row[2]) and ours <= 20 * float(row[3])
         new = [f"{theirs:.4g}", f"{ours:.4g}", f"{ours / theirs:.2f}"] if is_count else ["", "", ""]
-        made.append(row[:5] + new)
+        made.append(row[:5] + new + row[SECOND:])
     return made
 
 
-def ratios(rows):
+def with_second(rows, theirs, ours):
+    """Returns the rows of the table with the ratios of another toolchain's times."""
+    return [row[:SECOND] + [f"{ours[row[0]] / theirs[row[0]]:.2f}"] for row in rows]
+
+
+def ratios(rows, column=4):
     """Returns the ratios of each crate's workloads."""
     found = {}
-    for name, crate, _, _, ratio, *_ in rows:
-        found.setdefault(crate, []).append((name, float(ratio)))
+    for row in rows:
+        found.setdefault(row[1], []).append((row[0], float(row[column])))
     return found
 
 
@@ -65,14 +72,13 @@ def mean(values):
     return math.exp(sum(math.log(max(it, 0.005)) for it in values) / len(values))
 
 
-def with_summary(lines, found):
-    """Returns the page's lines with the counts and means of each crate."""
-    every = {**found, "all": [it for rows in found.values() for it in rows]}
+def with_summary(lines, found, second):
+    """Returns the page's lines with the counts and means of each crate, by both toolchains."""
     made = {}
-    for crate, rows in every.items():
-        values = [ratio for _, ratio in rows]
+    for crate in (*found, "all"):
+        values, others = ([ratio for of, rows in them.items() if crate in (of, "all") for _, ratio in rows] for them in (found, second))
         counts = f"{len(values)} | {mean(values):.2f} | {sum(it > 1 for it in values)} | {min(values):.2f} | {max(values):.2f}"
-        made[f"| {crate} "] = f"| {crate} | {counts} |"
+        made[f"| {crate} "] = f"| {crate} | {counts} | {mean(others):.2f} | {sum(it > 1 for it in others)} |"
     return [next((row for head, row in made.items() if line.startswith(head)), line) for line in lines]
 
 
@@ -106,12 +112,14 @@ def main():
     if len(sys.argv) == 3:
         rows = with_times(rows, least(sys.argv[1]), least(sys.argv[2]))
     elif len(sys.argv) == 2:
-        head, rows = head[:5] + COUNTS, with_counts(rows, sys.argv[1])
+        head, rows = head[:5] + COUNTS + head[SECOND:], with_counts(rows, sys.argv[1])
+    elif len(sys.argv) == 4:
+        head, rows = head[:SECOND] + ["ratio, second toolchain"], with_second(rows, least(sys.argv[2]), least(sys.argv[3]))
     if len(sys.argv) > 1:
         table.write_text("".join("\t".join(it) + "\n" for it in [head, *rows]), encoding="utf-8")
     found = ratios(rows)
     lines = page.read_text(encoding="utf-8").split("\n")
-    page.write_text("\n".join(with_summary(lines, found)), encoding="utf-8")
+    page.write_text("\n".join(with_summary(lines, found, ratios(rows, SECOND))), encoding="utf-8")
     (DOCS / "performance.svg").write_text(picture(found), encoding="utf-8")
 
 
