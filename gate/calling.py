@@ -1,12 +1,14 @@
 """Makes the lower part of a library's CALLING.md of its sources, its definitions and its callers in rsc_uses; and docs/CALLS.md, which has each public
 call of the libraries, the names of its clauses, what calls it, and a wrong body that is refused for them. gate/pages.py imports it."""
+import collections
+import functools
 import pathlib
 import re
 
 from defined import names_of_specs
 from edits import edits_in
 from heads import above, head, source_of
-from typed import calls_of, files
+from typed import LIBRARIES, calls_of, files
 
 ROOT = pathlib.Path(__file__).resolve().parent.parent
 
@@ -41,17 +43,44 @@ def sources(crate):
             yield file.relative_to(ROOT / "crates" / crate / "src"), file.read_text(encoding="utf-8")
 
 
+@functools.cache
+def cited():
+    """Returns, for each crate, each definition that a public function's clauses cite, or what a trait's methods promise, or that is what a contract sees of a
+    value, with those functions or impls."""
+    found = collections.defaultdict(lambda: collections.defaultdict(set))
+    for crate in LIBRARIES:
+        for path, text in sources(crate):
+            imported = {}
+            for of, module, names in re.findall(r"ghost use Rattle\.(rsc_\w+)\.specs\.([\w.]+)\.\{([^}]*)\}", text):
+                if not module.startswith("declared"):
+                    imported.update({it.strip(): (of, module) for it in names.split(",")})
+            for it in source_of(text).functions:
+                for name in set(re.findall(r"[\w-]+", it.signature)) & set(imported) if it.is_pub and is_exported(crate, path, it) else ():
+                    of, module = imported[name]
+                    found[of][f"{module}.{name}"].add("::".join(filter(None, (crate, head(it.owner.name), it.name))))
+            for of, seen in re.findall(r"^impl.* Model for (\w+).*\{\n(?:(?:    .*)?\n)*?    ghost Value = \{(.*)\};$", text, flags=re.M):
+                is_private = re.search(rf"pub\(crate\) (?:struct|enum) {of}\b", text)
+                for name in () if is_private else set(re.findall(r"[\w-]+", seen)) & set(imported):
+                    of, module = imported[name]
+                    found[of][f"{module}.{name}"].add(f"what a contract sees of a value of {crate}/src/{path}")
+            for impl, kept in promises(text):
+                for name in set(re.findall(r"[\w-]+", " ".join(kept))) & set(imported):
+                    of, module = imported[name]
+                    found[of][f"{module}.{name}"].add(f"the impl of {impl} in {crate}")
+    return found
+
+
 MARK = re.compile(r"<!-- callers: (.*) -->\n")
 LAWS = """## Laws, and what else can be cited
 
-A law is a public function of `{crate}::laws` that does nothing, and whose contract is the law. A function whose proof needs it calls it at its beginning, as
-`laws::{law}();`: from there on the law is among the facts that the checker
-searches. What the search doesn't find, as often of a law with premises, a proof file says by hand.
+A law is a public function of `{crate}::laws`, or of a module there, whose contract is the law; most do nothing. A function whose proof needs it calls it at its
+beginning, as `laws::{law}();`: from there on the law is among the facts that the checker
+searches. What the search doesn't find, as is common for laws with premises, a proof file states by hand.
 
-A contract or a proof of yours may use all of `Rattle.{crate}.specs`: a name `{module}.{name}` of the table below by
+A contract or a proof of yours may use the names of the first table below: a name `{module}.{name}` by
 `ghost use Rattle.{crate}.specs.{module}.{{{name}}};`, and a struct or an enum `TYPE` of `src/FILE.rt` by
 `ghost use Rattle.{crate}.specs.declared.FILE.TYPE.{{TYPE}};`. A proof may also cite the lemmas of `specs/..Laws`, which are about definitions
-alone. `Rattle.{crate}.proofs` and what that table lacks of `specs/` are private: they may change in any version.
+alone. What that table lacks of `specs/`, and `Rattle.{crate}.proofs`, may change in any version.
 """
 
 
@@ -203,19 +232,19 @@ def page(crate, text):
         raise ValueError(f"crates/{crate}/CALLING.md lacks a line `<!-- callers: FILE FUNCTION ..; FILE FUNCTION .. -->`")
     laws = (ROOT / "crates" / crate / "src/laws.rt").read_text(encoding="utf-8")
     law = next(iter(source_of(laws).items().values()))
-    listed = names_of_specs(crate)
+    listed = names_of_specs(crate, cited()[crate])
     module, name = re.search(r"^\| `(\w+)\.([^`]+)` \|", listed, flags=re.M).groups()
-    cited = LAWS.format(crate=crate, law=law, module=module, name=name)
+    laws = LAWS.format(crate=crate, law=law, module=module, name=name)
     quoted = "\n".join(callers(path, names) for path, *names in map(str.split, mark[1].split(";")))
-    return text[: mark.end()] + "\n" + "\n".join([NOTATION, items(crate), "## Callers\n", quoted, cited, contracts(crate), listed])
+    return text[: mark.end()] + "\n" + "\n".join([NOTATION, items(crate), "## Callers\n", quoted, laws, contracts(crate), listed])
 
 
 HEAD = """# The public calls
 
 Written by `gate/pages.py --write`. Each row is a public call, or an impl of a trait that promises something, with a link to its source file: the names of the
 clauses of its contract (`ensures` for one without a name), which CALLING.md of the crate quotes; a test whose text makes the call, itself or by a function of
-its crate that it calls (it need not be about that call); and a wrong body that the prover refuses in that very function (of several the first, with their number), or in one that it calls
-or that is like it (an accessor, a conversion), which is named then: at one of its goals at least, not at each clause. A law is a public function with an empty body, whose contract is a lemma; its wrong body
+its crate that it calls (it need not be about that call); and a wrong body that the prover refuses in that very function (of several the first, with their number), or in one that it calls,
+which is named then: at one of its goals at least, not at each clause. A law is a public function with an empty body, whose contract is a lemma; its wrong body
 is another statement, or an edit of the constant or the impl that it speaks of.
 
 `gate/typed.py` finds the test: of the crate's own tests, of `rsc_docs`, `rsc_uses_tests` or of other crates' tests, a `must-run` snippet among them. It names one only where the
@@ -270,6 +299,10 @@ def bodies_below(path, body, bodies):
     return []
 
 
+# By this comment a body says why no other one has its type.
+NONE = "// No wrong body: "
+
+
 def rows(crate, callers):
     """Yields the row of each call of a crate, and of each impl that promises something."""
     bodies = bodies_of(crate)
@@ -282,7 +315,8 @@ def rows(crate, callers):
             clauses = [name or "ensures" for name in re.findall(r"^\s*ensures\*? (\w*) ?\{", it.signature, flags=re.M)]
             made = ("call", owner, it.name) if owner else ("fn", crate, it.name)
             refused = bodies.get(call) or (bodies_below(path, text[it.start : it.end], bodies) if path.stem != "laws" else [])
-            refused = refused or bodies_alike(call, bodies)
+            if not refused and NONE not in text[it.start : it.end]:
+                raise ValueError(f"{call} has no wrong body")
             yield row(crate, path, call.removeprefix("lib::"), clauses, caller_of(crate, callers, made), refused)
         for impl, kept in promises(text):
             trait, with_what, of = re.match(r"(?:\w+::)*(\w+)(?:<(.*)>)? for (\w+)", impl).groups()
@@ -291,28 +325,9 @@ def rows(crate, callers):
             prefix = rf"{of}\w*{trait}" + (rf"\w*{other[0].upper()}{other[1:]}" if other else "") + r"\w*::"
             found = [name for function, names in bodies.items() if re.match(prefix, function) for name in names]
             made = ("trait", trait, of, other) if other else ("trait", trait, of)
-            found = found or bodies_alike(impl, bodies)
+            if not found:
+                raise ValueError(f"{impl} has no wrong body")
             yield row(crate, path, impl, [it.partition(" ")[0] for it in kept], caller_of(crate, callers, made), found)
-
-
-# Accessors and conversions that share the wrong body of another one, by the function that is refused; and the calls that have none (docs/DECISIONS.md).
-ALIKE = ((r"(PatternID|SmallIndex|StateID)::as_\w+", r"\1::as_.+"), (r"(?:Try)?From<\w+> for (PatternID|SmallIndex|StateID)", r"\1(?:Try)?From.+"),
-         ("MatchError::kind", "MatchError::new"), ("HalfMatch::pattern", "HalfMatch::offset"), ("Match::pattern", "Match::span"),
-         ("PatternSetInsertError::attempted", "PatternSetInsertError::capacity"), ("Captures::pattern", "Captures::is_match"),
-         ("Captures::group_info", "Captures::group_len"), ("GroupInfoError::kind", "GroupInfoError::clone"), ("Nfa::(?:group_info|matcher)", "Nfa::states"),
-         ("From<.*> for Error", "ErrorFromBuildError::from"), ("Matches::next", "Rest::next"), ("Program::nfa", "Program::start"))
-EXEMPT = ("GroupInfo::all_names", "Dfa::new", "Matches::into_cache", "Lines::into_dfa")
-
-
-def bodies_alike(call, bodies):
-    """Returns the wrong bodies of a function that stands for a call without any."""
-    for pattern, alike in ALIKE:
-        if re.fullmatch(pattern, call):
-            refused = re.sub(f"^{pattern}$", alike, call)
-            return [f"{name}` of `{function}" for function, names in bodies.items() if re.fullmatch(refused, function) for name in names]
-    if call not in EXEMPT:
-        raise ValueError(f"{call} has no wrong body")
-    return []
 
 
 def row(crate, path, call, clauses, caller, bodies):

@@ -1,8 +1,10 @@
-"""Reads the definitions of a crate's specs/ with their comments: the glossary of its CALLING.md, and the lists of docs/DEFINITIONS.md. gate/calling.py and
-gate/pages.py import it."""
+"""Reads the definitions of a crate's specs/ with their comments: the glossary of its CALLING.md, and the lists of docs/DEFINITIONS.md; and the calls that a doc
+comment says the original lacks. gate/calling.py and gate/pages.py import it."""
 import itertools
 import pathlib
 import re
+
+from heads import above, head, source_of
 
 ROOT = pathlib.Path(__file__).resolve().parent.parent
 
@@ -58,17 +60,21 @@ def definitions_of(crate):
                 comment, is_taken = "", False
 
 
-def names_of_specs(crate):
-    """Returns the definitions of specs/, each with the comment above it, or how it is defined; the lemmas come last, and private ones are left out."""
-    believed, others = [], []
+def names_of_specs(crate, cited):
+    """Returns the definitions of specs/, each with the comment above it, or how it is defined: those that are cited, those of which they are made, and lemmas with
+    what serves them. Private ones are left out."""
+    tables = {
+        "Contracts cite these. From 0.1.0 on they stay, with the fields of their records:": [],
+        "Of these they are made. These may change:": [],
+        "These serve proofs, and need no trust. They may change, too:": [],
+    }
+    stay, parts, others = tables.values()
     for file, name, comment, line, below in definitions_of(crate):
-        rows = others if re.search(r"Laws|Same", file.stem) else believed
-        if comment or rows is believed:
+        rows = others if re.search(r"Laws|Same", file.stem) else stay if f"{file.stem}.{name}" in cited else parts
+        if comment or rows is not others:
             rows.append(f"| `{file.stem}.{name}` | {meaning(comment, line, below).replace('|', chr(92) + '|')} |")
-    parts = ["## Names of `specs/`", "", "| Name | What it says |", "|---|---|", *believed, ""]
-    if others:
-        parts += ["These serve proofs, and need no trust:", "", "| Name | What it says |", "|---|---|", *others, ""]
-    return "\n".join(parts)
+    listed = [[title, "", "| Name | What it says |", "|---|---|", *rows, ""] for title, rows in tables.items() if rows]
+    return "\n".join(["## Names of `specs/`", "", *itertools.chain(*listed)])
 
 
 def with_parameters(name, comment, line, below):
@@ -104,3 +110,33 @@ def definitions_page(text):
 
         made.append(re.sub(r"<!-- specs: (.*?) -->\n.*?<!-- end -->", listed, part, flags=re.S))
     return "".join(made), [f"{crate}/{it}" for crate, files in left.items() for it in files]
+
+
+LACKED = "The original lacks it."
+
+
+def first_sentence(comment):
+    """Returns the first sentence of a doc comment, on one line, with links as what they show.
+
+    >>> first_sentence("    /// The set, as by\\n    /// [`Set::new`](crate::Set::new). The original lacks it.\\n")
+    'the set, as by `Set::new`'
+    """
+    said = " ".join(it.strip().removeprefix("///").strip() for it in comment.splitlines() if it.strip().startswith("///"))
+    said = re.sub(r"\[(`[^`]*`)\](\([^)]*\))?", r"\1", said)
+    return re.sub(r"^[A-Z](?=[a-z ])", lambda it: it[0].lower(), re.split(r"\.(?: |$)", said)[0])
+
+
+def lacked_calls(crates):
+    """Yields a line for each public function of these crates of which a doc comment says that the original lacks it."""
+    for crate in crates:
+        for file in sorted((ROOT / "crates" / crate / "src").glob("**/*.rt")):
+            text = file.read_text(encoding="utf-8")
+            for it in source_of(text).functions if LACKED in text else ():
+                comment = text[above(text, it.line) : it.line]
+                if LACKED in comment:
+                    yield f"- `{'::'.join(filter(None, (head(it.owner.name), it.name)))}`: {first_sentence(comment)}"
+
+
+def with_lacked_calls(text, crates):
+    """Returns docs/DIFFERENCES.md with these lines between `<!-- lacked -->` and `<!-- end -->`."""
+    return re.sub(r"<!-- lacked -->\n.*?<!-- end -->", lambda _: "<!-- lacked -->\n" + "\n".join(lacked_calls(crates)) + "\n<!-- end -->", text, flags=re.S)

@@ -13,6 +13,7 @@
 - The table of docs/WRONG_BODIES.md: for each edit that it names, the function and the goal that refuse it.
 - The comments of each Lib.antt: the first sentence of each module's head.
 - The lists of docs/DEFINITIONS.md: the comments of the files of specs/ that each line `<!-- specs: FILE .. -->` names. Each file but `..Layout` is named.
+- The list of docs/DIFFERENCES.md of what is new here: the calls of which a doc comment says `The original lacks it.`
 - Numbers that other files decide: README.md's totals of docs/PERFORMANCE.md, of commands and of wrong bodies, and the sizes of a batch of names.
 
 It asks that the forms under 'Forms that are asked for' of docs/DECISIONS.md are there, that no library calls a function whose sums wrap, and that no
@@ -26,17 +27,16 @@ and no two files of a crate's specs/ have a definition of one name.
 No crate imports another crate's `proofs` or `specs/..Layout`: the layers compose by contracts, laws and definitions alone. No line of a .rt
 or .antt file is longer than 160 columns, except imports, tables of literals, and the quotation of a test or of a text that is longer.
 """
-import collections
 import itertools
 import pathlib
 import re
 import sys
 
-from calling import ROOT, calls, is_exported, page, promises, sources
-from defined import definitions_page
+from calling import ROOT, calls, cited, is_exported, page, sources
+from defined import definitions_page, with_lacked_calls
 from edits import edits_in
 from heads import above, head, source_of
-from settled import clause_faults, name_faults
+from settled import clause_faults, name_faults, twice_named
 from trusted import believed, engine_statement, reached, statement, trusted
 from typed import LIBRARIES
 
@@ -181,30 +181,10 @@ def pages():
     if left:
         raise ValueError(f"docs/DEFINITIONS.md names no list of {', '.join(left)}")
     yield file, listed
+    file = ROOT / "docs/DIFFERENCES.md"
+    yield file, with_lacked_calls(file.read_text(encoding="utf-8"), LIBRARIES)
     yield ROOT / "docs/TRUSTED.md", trusted()
     yield ROOT / "docs/CALLS.md", calls(LIBRARIES)
-
-
-def cited():
-    """Returns, for each crate, each definition that a public function's clauses cite, or what a trait's methods promise, with those functions or impls."""
-    found = collections.defaultdict(lambda: collections.defaultdict(set))
-    for crate in LIBRARIES:
-        for path, text in sources(crate):
-            imported = {}
-            for of, module, names in re.findall(r"ghost use Rattle\.(rsc_\w+)\.specs\.([\w.]+)\.\{([^}]*)\}", text):
-                if not module.startswith("declared"):
-                    imported.update({it.strip(): (of, module) for it in names.split(",")})
-            for it in source_of(text).functions:
-                for name in set(re.findall(r"[\w-]+", it.signature)) & set(imported) if it.is_pub and is_exported(crate, path, it) else ():
-                    of, module = imported[name]
-                    found[of][f"{module}.{name}"].add("::".join(filter(None, (crate, head(it.owner.name), it.name))))
-            for impl, kept in promises(text):
-                for name in set(re.findall(r"[\w-]+", " ".join(kept))) & set(imported):
-                    of, module = imported[name]
-                    # Equality as a `bool` needs no trust: its laws tie it to equality.
-                    if not name.startswith("same_"):
-                        found[of][f"{module}.{name}"].add(f"the impl of {impl} in {crate}")
-    return found
 
 
 def definition_faults():
@@ -212,6 +192,9 @@ def definition_faults():
     needed = [(crate, name, ", ".join(sorted(citing)[:3]) + " cites") for crate, names in sorted(cited().items()) for name, citing in sorted(names.items())]
     needed += [(crate, f"{module}.{it}", "docs/TRUSTED.md lists") for (crate, module), names in sorted(reached([*statement(False), *engine_statement()])[0].items()) for it in sorted(names)]
     for crate, name, why in needed:
+        # Equality as a `bool` needs no trust: its laws tie it to equality.
+        if name.rpartition(".")[2].startswith("same_"):
+            continue
         yield [f"docs/DEFINITIONS.md leaves out `{name}` of {crate}, which {why}"] if "Layout" in name.rpartition(".")[0] else []
 
 
@@ -237,7 +220,7 @@ def phrases():
     """Returns for each page the phrases whose numbers other files decide."""
     source = "crates/rsc_captures/src/repeats.rt"
     table = int(re.search(r"^const TABLE: usize = (\d+);", (ROOT / source).read_text(encoding="utf-8"), flags=re.M)[1])
-    count, mean, slower, _, _ = re.search(r"^\| all \| (.*) \|$", (ROOT / "docs/PERFORMANCE.md").read_text(encoding="utf-8"), flags=re.M)[1].split(" | ")
+    count, mean, slower, *_ = re.search(r"^\| all \| (.*) \|$", (ROOT / "docs/PERFORMANCE.md").read_text(encoding="utf-8"), flags=re.M)[1].split(" | ")
     commands = (ROOT / "crates/rsc_compare/stdin").read_text(encoding="utf-8").splitlines()
     bodies = sum(len(re.findall(r"^== ", path.read_text(encoding="utf-8"), flags=re.M)) for path in (ROOT / "crates").glob("**/*.edits"))
     return {
@@ -311,6 +294,20 @@ def path_faults():
         yield [f"{page.relative_to(ROOT)} names `{it}`, which isn't there" for it in missing]
 
 
+def unknown_names():
+    """Yields for each page the names in backquotes, by themselves, that no file of the repository has. Pages on the original, on times and on what wasn't built
+    have others' names."""
+    kinds = (".antt", ".edits", ".py", ".rs", ".rt", ".sh", ".txt")
+    files = [it for it in ROOT.glob("**/*") if it.suffix in kinds and "out" not in it.relative_to(ROOT).parts]
+    known = {word for it in files for word in re.findall(r"\w+", f"{it.stem} {it.read_text(encoding='utf-8')}")}
+    for page, text in documents():
+        if page.name in ("DIFFERENCES.md", "DECISIONS.md", "PERFORMANCE.md") or page.parent == ROOT / "bench":
+            continue
+        own = re.sub(r"```.*?```|^## What differs.*?(?=^## |\Z)", "", text.partition("<!-- callers: ")[0], flags=re.M | re.S)
+        named = {name for whole in re.findall(r"`([\w:.]+)`", own) for name in re.findall(r"[A-Za-z]\w*", whole)}
+        yield [f"{page.relative_to(ROOT)} names `{it}`, which stands nowhere" for it in sorted(named - known) if re.search(r"[a-z_]", it) and re.search("[A-Z_]", it)]
+
+
 def anchors(page):
     """Returns the headings of a page, as a link names them."""
     heads = re.findall(r"^#+ (.*)$", re.sub(r"```.*?```", "", page.read_text(encoding="utf-8"), flags=re.S), flags=re.M)
@@ -369,7 +366,7 @@ def main():
         return 1
     bodies = ROOT / "docs/WRONG_BODIES.md"
     made[bodies], missing = named_bodies(bodies.read_text(encoding="utf-8"))
-    faults_of = [number_faults(made), *(it() for it in (source_faults, form_faults, visibility_faults, path_faults, link_faults, definition_faults, clause_faults, name_faults))]
+    faults_of = [number_faults(made), *(it() for it in (source_faults, form_faults, visibility_faults, path_faults, unknown_names, link_faults, definition_faults, clause_faults, twice_named, name_faults))]
     for faults in [*itertools.chain.from_iterable(faults_of), [f"docs/WRONG_BODIES.md names {it}, which isn't there" for it in missing]]:
         count += 1
         failures += faults

@@ -2,7 +2,7 @@
 import collections
 import re
 
-from calling import ROOT
+from calling import ROOT, is_exported, sources
 from heads import head, source_of
 from typed import LIBRARIES
 
@@ -62,8 +62,12 @@ MEANT = (("rsc_look/src/word.rt", r"ghost word_chars = .*?;"), ("rsc_look/src/ma
 def clauses_of(file, name):
     """Returns the head of a public function of a source file, `new` or `Match::new`, and each of its clauses."""
     functions = source_of((ROOT / "crates" / file).read_text(encoding="utf-8")).functions
-    signature = next(it.signature for it in functions if it.is_pub and name in (it.name, f"{head(it.owner.name)}::{it.name}"))
-    return re.split(r"\n +(?=ensures|requires)", signature.strip())
+    return clauses_in(next(it for it in functions if it.is_pub and name in (it.name, f"{head(it.owner.name)}::{it.name}")))
+
+
+def clauses_in(function):
+    """Returns the head of a function, and each of its clauses."""
+    return re.split(r"\n +(?=ensures|requires)", function.signature.strip())
 
 
 def quoted_clauses(file, name):
@@ -87,22 +91,12 @@ def statement(is_quoted):
             yield file, it
 
 
-# What rsc_engine promises of a search, and by what its groups are read: the clauses of these functions.
-ENGINE = (("rsc_engine", "first.rt", ("find",)), ("rsc_engine", "iterate.rt", ("new", "next", "into_cache")), ("rsc_engine", "builder.rt", ("new", "range", "class", "literal", "assertion", "empty", "never", "then", "concat", "one_of", "either", "group", "pattern")),
-          ("rsc_engine", "builder/build.rt", ("build", "build_with")),
-          ("rsc_engine", "builder/part.rt", ("may_be_empty", "loops_take_bytes")),
-          ("rsc_engine", "builder/repeat.rt", tuple(f"{it}{end}" for it in ("optional", "star", "plus", "repeat") for end in ("", "_lazy"))),
-          ("rsc_engine", "dfa.rt", ("new", "earliest_end", "is_match", "find", "leftmost_end")), ("rsc_engine", "cache.rt", ("new", "find", "matches")),
-          ("rsc_engine", "lines.rt", ("new", "next", "into_dfa")),
-          ("rsc_engine", "program.rt", ("new", "captures", "nfa", "start", "is_utf8", "len", "state")),
-          ("rsc_captures", "captures.rt", ("empty", "is_match", "pattern", "slots", "get_match", "group_len", "get_group", "get_group_by_name", "iter")),
-          ("rsc_search", "input.rt", ("new", "span", "range", "anchored", "earliest", "set_span", "set_range", "set_start", "set_end", "set_anchored", "set_earliest")),
-          ("rsc_search", "matches.rt", tuple(f"Match::{it}" for it in ("pattern", "start", "end", "range", "span", "is_empty", "len"))),
-          ("rsc_engine", "laws.rt", ()))
+# What rsc_engine promises, and what a search is asked and answers: the clauses of all calls of the crate, and of these types of the port.
+ENGINE = (("rsc_engine", None), ("rsc_captures", "Captures"), ("rsc_search", "Input"), ("rsc_search", "Match"))
 ENGINE_MEANT = (("rsc_look/src/word.rt", r"ghost word_chars = .*?;"), ("rsc_engine/src/iterate.rt", r"impl<[^{]*Model for Matches.*?^\}"))
 ENGINE_SEEN = (("rsc_engine", "program.rt", "Program"), ("rsc_engine", "dfa.rt", "Dfa"), ("rsc_engine", "cache.rt", "Cache"),
                ("rsc_engine", "iterate.rt", "Matches"), ("rsc_engine", "lines.rt", "Lines"), ("rsc_nfa", "nfa.rt", "Nfa"), ("rsc_look", "matcher.rt", "LookMatcher"), ("rsc_search", "input.rt", "Input"), ("rsc_search", "matches.rt", "Match"),
-               ("rsc_captures", "captures.rt", "Captures"), ("rsc_captures", "group_info.rt", "GroupInfo"), ("rsc_captures", "layout.rt", "SharedLists"),
+               ("rsc_captures", "captures.rt", "Captures"), ("rsc_captures", "group_info.rt", "GroupInfo"), ("rsc_captures", "shared_lists.rt", "SharedLists"),
                *(("rsc_primitives", f"primitives/{it}.rt", name) for it, name in
                  (("small_index", "SmallIndex"), ("pattern_id", "PatternID"), ("state_id", "StateID"), ("non_max", "NonMaxUsize"))))
 
@@ -128,10 +122,11 @@ def engine_statement():
     """Yields each clause of the functions of ENGINE with its file, and what they mean besides."""
     for file, pattern in ENGINE_MEANT:
         yield from ((file, it) for it in re.findall(pattern, (ROOT / "crates" / file).read_text(encoding="utf-8"), flags=re.M | re.S))
-    for crate, file, names in ENGINE:
-        # Without a name all functions of the file.
-        names = names or re.findall(r"^pub fn (\w+)", (ROOT / "crates" / crate / "src" / file).read_text(encoding="utf-8"), flags=re.M)
-        yield from ((f"{crate}/src/{file}", it) for name in names for it in clauses_of(f"{crate}/src/{file}", name)[1:])
+    for crate, owner in ENGINE:
+        for path, text in sources(crate):
+            for it in source_of(text).functions:
+                if it.is_pub and is_exported(crate, path, it) and owner in (None, head(it.owner.name)):
+                    yield from ((f"{crate}/src/{path}", clause) for clause in clauses_in(it)[1:])
 
 
 def reached(parts):
@@ -210,8 +205,7 @@ def engine_trusted():
     for said, file, name in COUNTED:
         found, automata = counted(file, name)
         lines.append(f"| {said} | {' | '.join(map(str, sizes(found)))} | {sizes(automata)[0]} |")
-    lines += ["", "The clauses of `Builder`'s calls, `Program`'s, the calls that make or change an `Input`, all searches (`find`, `Matches`, `Cache`, `Dfa`), the readers of a `Match`",
-              "and of `Captures`, and the laws (by a list in `gate/trusted.py`, which reads the sources as text) reach "
+    lines += ["", "The clauses of all public functions of `rsc_engine`, its laws among them, and of all calls of `Input`, `Match` and `Captures` reach "
               f"{count} definitions, {all_lines} lines:", "", "| File | Lines | Definitions |", "|---|---|---|", *rows(own, own)]
     lines += ["", "What is seen of a value; of a `Builder` and a `Part` clauses see the fields. `lists_held` and `from_le_bytes` say how the code holds lists and numbers, and "
               "aren't counted: the clauses of `GroupInfo::new` (`groups`) and of `NonMaxUsize::new` and `get` say what a caller sees.", "", *views(ENGINE_SEEN)]

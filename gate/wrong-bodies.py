@@ -268,15 +268,17 @@ def refused_tasks(wanted, names, known, room):
 
 
 def state_of(kind, crate, known, tested):
-    """Returns a checksum of all that the edits of a kind of a crate rest on: the toolchain, the scripts that try them, the crate and those below it, and, of
-    edits over which a test must fail, the crates of the tests."""
+    """Returns a checksum of all that the edits of a kind of a crate rest on: the toolchain, the scripts that try them, the crate and those below it
+    but their edits, and, of edits over which a test must fail, the crates of the tests."""
     others = {it[2]["tests"] for it in tested if it[0] == crate and "tests" in it[2]} if kind == "tested-bodies" else set()
     folders = sorted({low for it in {crate, *others} for low in below(it, known)})
     scripts = ("edits", "wrong-bodies", *(("tested", "stored-runs") if kind == "tested-bodies" else ("heads",)))
     found = hashlib.sha256(subprocess.run(["rt", "version"], stdout=subprocess.PIPE, check=True).stdout)
     files = [pathlib.Path(ROOT, "gate", f"{it}.py") for it in scripts]
     for folder in (pathlib.Path(ROOT, "crates", it) for it in folders):
-        files += [it for it in sorted(folder.rglob("*")) if it.is_file() and "out" not in it.relative_to(folder).parts and it.suffix != ".md"]
+        # What is tried of a crate below says nothing of this one.
+        left_out = {"out"} | ({"wrong-bodies", "tested-bodies.edits"} if folder.name != crate else set())
+        files += [it for it in sorted(folder.rglob("*")) if it.is_file() and not left_out & {*it.relative_to(folder).parts} and it.suffix != ".md"]
     for path in files:
         found.update(str(path.relative_to(ROOT)).encode() + b"\0" + path.read_bytes() + b"\0")
     return found.hexdigest()
