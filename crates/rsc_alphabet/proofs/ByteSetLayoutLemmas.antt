@@ -163,7 +163,8 @@ pub equal_bits : (xs : List ℕ) (first byte i : ℕ) → first + 64 ≤ length 
 equal_bits xs first byte i room l =
     let long : length (chunk first 64 xs) ≡ 64 = length-chunk first 64 xs room in
     ap (λ m. has_bit m i) (bitmask_splat w8 nat_eq (chunk first 64 xs) 64 byte long (omega arith))
-    ∙ bit_of_mask (map (λ x. nat_eq x byte) (chunk first 64 xs)) i ∙ get_or-map (λ x. nat_eq x byte) (chunk first 64 xs) i 0 false (omega (arith, long, l))
+    ∙ bit_of_mask (map (λ x. nat_eq x byte) (chunk first 64 xs)) i
+    ∙ get_or-map (λ x. nat_eq x byte) (chunk first 64 xs) i 0 false (omega (arith, long, l))
     ∙ ap (λ x. nat_eq x byte) (get_or-chunk first 64 xs i 0 l)
 
 -- the comparison of a load with that of the bytes before it
@@ -178,7 +179,8 @@ unlike_bits xs first i some room l =
     let long_before : length before ≡ 64 = length-chunk (first - 1) 64 xs (omega (arith, room)) in
     let all : length (zip2 t here before) ≡ 64 = length-zip2 t here before (long ∙ sym long_before) ∙ long in
     let e : first - 1 + i ≡ first + i - 1 = omega arith in
-    ap (λ ms. has_bit (mask_l ms % 2 ^ 64) i) (tops_compared w8 t here before) ∙ ap (λ m. has_bit m i) (mask_l-mod (zip2 t here before) 64 (omega (arith, all)))
+    ap (λ ms. has_bit (mask_l ms % 2 ^ 64) i) (tops_compared w8 t here before)
+    ∙ ap (λ m. has_bit m i) (mask_l-mod (zip2 t here before) 64 (omega (arith, all)))
     ∙ bit_of_mask (zip2 t here before) i ∙ get_or-zip2 t here before i 0 0 false (omega (arith, long, l)) (omega (arith, long_before, l))
     ∙ (λ k. t (get_or-chunk first 64 xs i 0 l k) ((get_or-chunk (first - 1) 64 xs i 0 l ∙ ap (λ x. get_or xs x 0) e) k))
 
@@ -208,14 +210,16 @@ pub none_left : (s : Numbers) (number byte : ℕ) → number ≡ 3 → members_l
 none_left s number byte is = no_block s number byte ∙ let e : 64 * number + 64 ≡ 256 = omega (arith, is) in rw (e, from_to_none 256 256 (omega arith)) refl
 
 -- from a block with nothing left to the next one
-pub next_block : (s : Numbers) (number byte block : ℕ) → number + 1 < 4 → ((i : ℕ) → i < 64 → has_bit block i ≡ sets.contains s (64 * (number + 1) + i))
+pub next_block : (s : Numbers) (number byte block : ℕ) → number + 1 < 4
+    → ((i : ℕ) → i < 64 → has_bit block i ≡ sets.contains s (64 * (number + 1) + i))
     → members_left s (number + 1) (64 * (number + 1)) block ≡ members_left s number byte 0
 next_block s number byte block l same =
     let e : 64 * (number + 1) ≡ 64 * number + 64 = omega arith in
     whole_block s (number + 1) block l same ∙ ap (members_from s) e ∙ sym (no_block s number byte)
 
 -- the bits above the lowest one that is 1, shifted right
-pub lowest_left : (s : Numbers) (number byte block rest k : ℕ) → block < 2 ^ 64 → k < 64 → bit_at block k ≡ 1 → ((i : ℕ) → i < k → bit_at block i ≡ 0)
+pub lowest_left : (s : Numbers) (number byte block rest k : ℕ) → block < 2 ^ 64 → k < 64 → bit_at block k ≡ 1
+    → ((i : ℕ) → i < k → bit_at block i ≡ 0)
     → ((i : ℕ) → bit_at rest i ≡ bit_at block (k + (1 + i))) →
     members_left s number byte block ≡ (byte + k) ∷ members_left s number (byte + k + 1) rest
 lowest_left s number byte block rest k fits l here below moved =
@@ -246,7 +250,8 @@ lowest_left s number byte block rest k fits l here below moved =
     past i p q = ap (λ x. nat_eq x 1) (moved (i - (byte + k + 1)) ∙ bit_at_above block 64 (k + (1 + (i - (byte + k + 1)))) fits (omega arith))
 
 -- the same where the lowest bit is 1
-pub first_left : (s : Numbers) (number byte block rest : ℕ) → block < 2 ^ 64 → bit_and block 1 ≡ 1 → ((i : ℕ) → bit_at rest i ≡ bit_at block (1 + i)) →
+pub first_left : (s : Numbers) (number byte block rest : ℕ) → block < 2 ^ 64 → bit_and block 1 ≡ 1
+    → ((i : ℕ) → bit_at rest i ≡ bit_at block (1 + i)) →
     members_left s number byte block ≡ byte ∷ members_left s number (byte + 1) rest
 first_left s number byte block rest fits here moved =
     let e : byte + 0 ≡ byte = omega arith in

@@ -118,8 +118,10 @@ find_end s (suc n) b l far is =
 -- what is true of no runs past the bytes, of the runs after one that begins here and so with it, and of the runs after a byte that is no
 -- member and so of the same runs, is true of the runs from each index on
 pub for_runs_from : (s : Numbers) (P : ℕ → List (ℕ × ℕ) → Type 0) → ((low : ℕ) → 256 ≤ low → P low [])
-    → ((low e : ℕ) → low < 256 → parts_no_run s low ≡ true → EndsAt s low e → P (e + 1) (runs_from s (e + 1)) → P low ((low, e) ∷ runs_from s (e + 1)))
-    → ((low : ℕ) → low < 256 → sets.contains s low ≡ false → P (low + 1) (runs_from s (low + 1)) → P low (runs_from s (low + 1))) → (n low : ℕ) → 256 ≤ low + n
+    → ((low e : ℕ) → low < 256 → parts_no_run s low ≡ true → EndsAt s low e → P (e + 1) (runs_from s (e + 1))
+    → P low ((low, e) ∷ runs_from s (e + 1)))
+    → ((low : ℕ) → low < 256 → sets.contains s low ≡ false → P (low + 1) (runs_from s (low + 1)) → P low (runs_from s (low + 1)))
+    → (n low : ℕ) → 256 ≤ low + n
     → parts_no_run s low ≡ true → P low (runs_from s low)
 for_runs_from s P none first skipped zero low far clean = subst (P low) (sym (runs_from_none s low (omega arith))) (none low (omega arith))
 for_runs_from s P none first skipped (suc n) low far clean =
@@ -198,7 +200,8 @@ members_ascending s =
 
 -- ---- runs
 
-not_before : (s : Numbers) (low : ℕ) → parts_no_run s low ≡ true → sets.contains s low ≡ true → low < 256 → (b : ℕ) → b + 1 ≡ low → sets.contains s b ≡ false
+not_before : (s : Numbers) (low : ℕ) → parts_no_run s low ≡ true → sets.contains s low ≡ true → low < 256 → (b : ℕ) → b + 1 ≡ low
+    → sets.contains s b ≡ false
 not_before s low clean is l b e = let at : low - 1 ≡ b = omega (arith, e) in grind (arith, nat_tests, rw at at clean)
 
 -- the byte after the end of a run is no member
@@ -282,7 +285,8 @@ apart_first r [] first rest k d l = absurd (omega (arith, l))
 apart_first r (q ∷ rs) first rest zero d l = first q (Contains-first q rs)
 apart_first r (q ∷ rs) first rest (suc k) d l = let e : suc k + 1 ≡ suc (k + 1) = omega arith in rw e (rest k d (omega (arith, l)))
 
-apart_from : (s : Numbers) (n low : ℕ) → 256 ≤ low + n → parts_no_run s low ≡ true → AllAdjacentBelow Apart (runs_from s low) (length (runs_from s low))
+apart_from : (s : Numbers) (n low : ℕ) → 256 ≤ low + n → parts_no_run s low ≡ true
+    → AllAdjacentBelow Apart (runs_from s low) (length (runs_from s low))
 apart_from s =
     for_runs_from s (λ low rs. AllAdjacentBelow Apart rs (length rs))
     (λ low h k d l. absurd (omega (arith, l)))

@@ -14,7 +14,8 @@ letters = (0x61, 0x7A) ∷ []
 digits : List (ℕ × ℕ)
 digits = (0, 2) ∷ (4, 6) ∷ []
 
-classes_of_letters : map (class_of (has_boundary letters)) (0 ∷ 0x60 ∷ 0x61 ∷ 0x6D ∷ 0x7A ∷ 0x7B ∷ 255 ∷ []) ≡ 0 ∷ 0 ∷ 1 ∷ 1 ∷ 1 ∷ 2 ∷
+classes_of_letters : map (class_of (has_boundary letters)) (0 ∷ 0x60 ∷ 0x61 ∷ 0x6D ∷ 0x7A ∷ 0x7B ∷ 255 ∷ []) ≡ 0 ∷ 0 ∷ 1 ∷ 1 ∷ 1
+    ∷ 2 ∷
     2 ∷ []
 unfolding letters from_to
 classes_of_letters = refl

@@ -82,7 +82,8 @@ elements_of-byte classes (end_of_input n) class s is same = cc
 -- ---- the representatives of a range
 
 -- a set whose members are the bytes from `low` up to, and without, `high` whose class isn't their predecessor's, and `low`
-representing_are : (classes : List ℕ) (s : Numbers) (low high : ℕ) → low ≤ high → high ≤ 256 → ((b : ℕ) → b < low → sets.contains s b ≡ false)
+representing_are : (classes : List ℕ) (s : Numbers) (low high : ℕ) → low ≤ high → high ≤ 256
+    → ((b : ℕ) → b < low → sets.contains s b ≡ false)
     → ((b : ℕ) → high ≤ b → b < 256 → sets.contains s b ≡ false) →
     ((b : ℕ) → low ≤ b → b < high → sets.contains s b ≡ (nat_eq b low || not (nat_eq (slice_index classes b) (slice_index classes (b - 1)))))
     → members s ≡ representing classes low high
@@ -114,7 +115,8 @@ pub members_none : members sets.empty ≡ []
 members_none = filter_none (λ b. sets.contains sets.empty b) 0 256 (λ b p q. contains-empty nat_cmp b)
 
 -- what a test says of each of the four blocks
-pub by_blocks : (s : Numbers) (p : ℕ → Bool) → ((i : ℕ) → i < 64 → sets.contains s i ≡ p i) → ((i : ℕ) → i < 64 → sets.contains s (64 + i) ≡ p (64 + i)) →
+pub by_blocks : (s : Numbers) (p : ℕ → Bool) → ((i : ℕ) → i < 64 → sets.contains s i ≡ p i)
+    → ((i : ℕ) → i < 64 → sets.contains s (64 + i) ≡ p (64 + i)) →
     ((i : ℕ) → i < 64 → sets.contains s (128 + i) ≡ p (128 + i)) → ((i : ℕ) → i < 64 → sets.contains s (192 + i) ≡ p (192 + i)) → (b : ℕ)
     → b < 256
     → sets.contains s b ≡ p b
@@ -155,7 +157,8 @@ pub least_exponent : (n r k : ℕ) → 2 ^ r ≤ n → n < 2 ^ k → r + 1 ≤ k
 least_exponent n r k enough below = grind (arith, pow_mono {i = k} {j = r})
 
 -- one more byte has its class
-pub class_more : (f : ℕ → ℕ) (classes : List ℕ) (b : ℕ) → length classes ≡ 256 → ((k : ℕ) → k < b → slice_index classes k ≡ f k) → b < 256 →
+pub class_more : (f : ℕ → ℕ) (classes : List ℕ) (b : ℕ) → length classes ≡ 256 → ((k : ℕ) → k < b → slice_index classes k ≡ f k)
+    → b < 256 →
     (k : ℕ) → k < b + 1 → slice_index (set classes b (f b)) k ≡ f k
 class_more f classes b long before h =
     below_more _ b (λ k l. get_or-set_other classes b k (f b) 0 (omega arith) ∙ before k l) (get_or-set_same classes b (f b) 0 (omega arith))
@@ -215,7 +218,8 @@ length_representatives classes from to low =
     ends _ = omega arith
 
 -- what holds for the bytes of a list and for what follows them, and for the end of the input alone
-pub All-bytes : (P : Symbol → Type 0) (xs : List ℕ) (rest : List Symbol) → All (λ b. P (byte b)) xs → All P rest → All P (map (λ b. byte b) xs ++ rest)
+pub All-bytes : (P : Symbol → Type 0) (xs : List ℕ) (rest : List Symbol) → All (λ b. P (byte b)) xs → All P rest
+    → All P (map (λ b. byte b) xs ++ rest)
 All-bytes P xs rest all after = All-append P (map (λ b. byte b) xs) rest (All-map P (λ b. byte b) xs all) after
 
 -- a list of one unit
@@ -340,7 +344,8 @@ end_comes_last classes =
 
 -- ---- the entries of a table with a column for each class
 
-pub class_is_column : (classes : List ℕ) (width b : ℕ) → LastClassIsGreatest classes → symbol_count classes ≤ width → b < 256 → slice_index classes b < width
+pub class_is_column : (classes : List ℕ) (width b : ℕ) → LastClassIsGreatest classes → symbol_count classes ≤ width → b < 256
+    → slice_index classes b < width
 class_is_column classes width b bounded enough l = omega (arith, bounded.within b l, enough)
 
 -- an entry of a row is before the rows after it

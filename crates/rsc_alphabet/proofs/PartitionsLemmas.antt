@@ -31,11 +31,13 @@ inner_boundary : (ends : Numbers) (b : ℕ) → b < 255 → sets.contains ends b
 inner_boundary ends b l = sym (contains-removed ends 255 b ∙ rw (ne_eqb b 255 (λ e. omega arith)) refl)
 
 -- without 255 each boundary is below 255
-pub boundary_below : (ends : Numbers) → ((b : ℕ) → sets.contains ends b ≡ true → b < 256) → (k : ℕ) → sets.contains (sets.remove ends 255) k ≡ true → k < 255
+pub boundary_below : (ends : Numbers) → ((b : ℕ) → sets.contains ends b ≡ true → b < 256) → (k : ℕ)
+    → sets.contains (sets.remove ends 255) k ≡ true → k < 255
 boundary_below ends bytes k is = grind (arith, nat_tests, contains-removed ends 255 k, bytes k)
 
 -- the boundaries of a set to which other bytes were added
-pub boundaries_joined : (ends before after : Numbers) (starts lasts : ℕ → Bool) → ((b : ℕ) → sets.contains before b ≡ (sets.contains ends b || starts b))
+pub boundaries_joined : (ends before after : Numbers) (starts lasts : ℕ → Bool)
+    → ((b : ℕ) → sets.contains before b ≡ (sets.contains ends b || starts b))
     → ((b : ℕ) → sets.contains after b ≡ (sets.contains before b || lasts b)) →
     ((b : ℕ) → sets.contains after b ≡ true → b < 256) →
     (k : ℕ) → sets.contains (sets.remove after 255) k ≡ (sets.contains (sets.remove ends 255) k || (nat_lt k 255 && (starts k || lasts k)))
@@ -95,7 +97,8 @@ abbrev is_inner : Numbers → ℕ → Bool
 is_inner ends = sets.contains (sets.remove ends 255)
 
 -- the classes of all bytes, by how many members of the set are below each: the byte 255 is below none
-pub map_of_counts : (ends : Numbers) (classes : List ℕ) → length classes ≡ 256 → ((b : ℕ) → b < 256 → slice_index classes b ≡ class_of (sets.contains ends) b) →
+pub map_of_counts : (ends : Numbers) (classes : List ℕ) → length classes ≡ 256
+    → ((b : ℕ) → b < 256 → slice_index classes b ≡ class_of (sets.contains ends) b) →
     classes ≡ class_map (is_inner ends)
 map_of_counts ends classes long each =
     class_map_is (is_inner ends) classes long (λ b l. each b l
@@ -114,7 +117,8 @@ skipped : (b k : ℕ) (x y : Bool) → b ≤ 255 → (k ≡ b → x ≡ y)
     → (nat_lt k 255 && ((nat_le (b + 1) k && x) || (nat_eq (k + 1) (b + 1) && y))) ≡ (nat_lt k 255 && ((nat_le b k && x) || (nat_eq (k + 1) b && false)))
 skipped b k x y l at = grind (arith, nat_tests)
 
-stepped : (b e k : ℕ) (x y : Bool) → b ≤ e → e < 256 → (b ≤ k → k < e → x ≡ false) → (k ≡ e → e < 255 → x ≡ true) → (e < 255 → y ≡ false) →
+stepped : (b e k : ℕ) (x y : Bool) → b ≤ e → e < 256 → (b ≤ k → k < e → x ≡ false) → (k ≡ e → e < 255 → x ≡ true)
+    → (e < 255 → y ≡ false) →
     (((nat_lt 0 b && nat_eq (b - 1) k) || (nat_lt e 255 && nat_eq e k)) || (nat_lt k 255 && ((nat_le (e + 1) k && x) || (nat_eq (k + 1) (e + 1) && y)))) ≡
     (nat_lt k 255 && ((nat_le b k && x) || (nat_eq (k + 1) b && true)))
 stepped b e k x y from fits inner end next = grind (arith, nat_tests)
@@ -141,7 +145,8 @@ boundaries_from s k =
     ends x y e is h = grind (arith, nat_tests)
 
 -- a boundary of several ranges is a boundary of one of them
-pub contains-boundaries_of_ranges : (ranges : List (ℕ × ℕ)) (k : ℕ) → sets.contains (boundaries_of_ranges ranges) k ≡ list_any (is_boundary_of_range k) ranges
+pub contains-boundaries_of_ranges : (ranges : List (ℕ × ℕ)) (k : ℕ)
+    → sets.contains (boundaries_of_ranges ranges) k ≡ list_any (is_boundary_of_range k) ranges
 contains-boundaries_of_ranges [] k = contains-empty nat_cmp k
 contains-boundaries_of_ranges (r ∷ rest) k = contains-joined (boundaries_of_range r) (boundaries_of_ranges rest) k
     ∙ ap (λ b. is_boundary_of_range k r || b) (contains-boundaries_of_ranges rest k)
@@ -156,7 +161,8 @@ changing : (k : ℕ) (x y : Bool) → (nat_lt k 255 && ((y && (nat_eq (k + 1) 0 
 changing k x y = grind (arith, nat_tests)
 
 -- the boundaries before the first bytes of the runs, and after their last ones
-pub boundaries_of_ends : (s starts ends : Numbers) → ((b : ℕ) → sets.contains starts b ≡ begins_run s b) → ((b : ℕ) → sets.contains ends b ≡ ends_run s b) →
+pub boundaries_of_ends : (s starts ends : Numbers) → ((b : ℕ) → sets.contains starts b ≡ begins_run s b)
+    → ((b : ℕ) → sets.contains ends b ≡ ends_run s b) →
     (k : ℕ) → (nat_lt k 255 && (sets.contains starts (k + 1) || sets.contains ends k)) ≡ is_boundary_of_set s k
 boundaries_of_ends s starts ends first last k =
     let e : k + 1 - 1 ≡ k = omega arith in
@@ -183,7 +189,8 @@ boundary_is r k l = (
   (λ q. grind (arith, nat_tests, contains-boundaries_of_range r.0 r.1 k)),
 )
 
-moves : (p : ℕ → Bool) (r : ℕ × ℕ) (b c : ℕ) → c < 256 → ((k : ℕ) → k < 255 → sets.contains (boundaries_of_range r) k ≡ true → p k ≡ true) → Together p b c
+moves : (p : ℕ → Bool) (r : ℕ × ℕ) (b c : ℕ) → c < 256
+    → ((k : ℕ) → k < 255 → sets.contains (boundaries_of_range r) k ≡ true → p k ≡ true) → Together p b c
     → (r.0 ≤ b) × (b ≤ r.1) → b < 256 → (r.0 ≤ c) × (c ≤ r.1)
 moves p r b c small has together within here = (
   ⊎_elim
@@ -217,7 +224,8 @@ boundaries_together p r b c l u has t =
 
 -- where a list of ranges has a boundary between two neighbours, one of its ranges has a boundary
 has_boundary_of_one : (p : ℕ → Bool) (k : ℕ) → k < 255 → (ranges : List (ℕ × ℕ)) → All (λ r. r.0 ≤ r.1) ranges →
-    ((r : ℕ × ℕ) → Contains ranges r → sets.contains (boundaries_of_range r) k ≡ true → p k ≡ true) → has_boundary ranges k ≡ true → p k ≡ true
+    ((r : ℕ × ℕ) → Contains ranges r → sets.contains (boundaries_of_range r) k ≡ true → p k ≡ true) → has_boundary ranges k ≡ true
+    → p k ≡ true
 has_boundary_of_one p k l [] ordered has apart = cc
 has_boundary_of_one p k l (r ∷ rs) ordered has apart =
     ⊎_elim

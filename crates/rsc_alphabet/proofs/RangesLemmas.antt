@@ -75,7 +75,8 @@ are_alike_up ranges b (suc n) =
     ∙ grind (arith, nat_tests, class_of-rises (has_boundary ranges) b n))
 
 -- bytes are alike if they have one class
-pub are_alike_is : (ranges : List (ℕ × ℕ)) (b c : ℕ) → are_alike ranges b c ≡ nat_eq (class_of (has_boundary ranges) b) (class_of (has_boundary ranges) c)
+pub are_alike_is : (ranges : List (ℕ × ℕ)) (b c : ℕ)
+    → are_alike ranges b c ≡ nat_eq (class_of (has_boundary ranges) b) (class_of (has_boundary ranges) c)
 are_alike_is ranges b c =
     ⊎_elim
     (λ (l : b < c). let e : b + (c - b) ≡ c = omega arith in
@@ -105,7 +106,8 @@ boundary_if_unlike (s, e) k order within =
 pub has_boundary_more : (ranges : List (ℕ × ℕ)) (i : ℕ) (d : ℕ × ℕ) (k : ℕ) → i < length ranges
     → has_boundary (take (i + 1) ranges) k ≡ (has_boundary (take i ranges) k || not (treats_alike (get_or ranges i d) k (k + 1)))
 has_boundary_more ranges i d k l =
-    ap (λ rs. has_boundary rs k) (take_more ranges i d l) ∙ ap not (list_all-append (λ r. treats_alike r k (k + 1)) (take i ranges) (get_or ranges i d ∷ []))
+    ap (λ rs. has_boundary rs k) (take_more ranges i d l)
+    ∙ ap not (list_all-append (λ r. treats_alike r k (k + 1)) (take i ranges) (get_or ranges i d ∷ []))
     ∙ grind (arith, nat_tests)
 
 -- ---- alike bytes are in the same ranges
@@ -132,7 +134,8 @@ one_holds : (r : ℕ × ℕ) (b c : ℕ) → treats_alike r b c ≡ true → hol
 one_holds r b c t = both_or_neither (holds r) (min b c) (max b c + 1) b c (omega arith) (omega arith) (omega arith) (omega arith) t
 
 -- each range holds both of two alike bytes, or neither
-pub alike_each : (ranges : List (ℕ × ℕ)) (b c : ℕ) → are_alike ranges b c ≡ true → (r : ℕ × ℕ) → Contains ranges r → holds r b ≡ holds r c
+pub alike_each : (ranges : List (ℕ × ℕ)) (b c : ℕ) → are_alike ranges b c ≡ true → (r : ℕ × ℕ) → Contains ranges r
+    → holds r b ≡ holds r c
 alike_each ranges b c t r (k, l, e) =
     one_holds r b c (subst (λ x. treats_alike x b c ≡ true) e (AllPass-from_list_all (λ x. treats_alike x b c) ranges t k r l))
 
@@ -143,7 +146,8 @@ same_any (r ∷ rest) b c each =
     ap₂ (λ x y. x || y) (each r (0, omega arith, refl)) (same_any rest b c (λ q in_rest. each q (Contains-append_right (r ∷ []) rest q in_rest)))
 
 -- and so does a list of some of the ranges
-pub alike_some : (ranges part : List (ℕ × ℕ)) (b c : ℕ) → are_alike ranges b c ≡ true → ((r : ℕ × ℕ) → Contains part r → Contains ranges r)
+pub alike_some : (ranges part : List (ℕ × ℕ)) (b c : ℕ) → are_alike ranges b c ≡ true
+    → ((r : ℕ × ℕ) → Contains part r → Contains ranges r)
     → list_any (λ r. holds r b) part ≡ list_any (λ r. holds r c) part
 alike_some ranges part b c t among = same_any part b c (λ r in_part. alike_each ranges b c t r (among r in_part))
 

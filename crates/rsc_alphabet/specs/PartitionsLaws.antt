@@ -79,7 +79,8 @@ class_of_same p q (suc b) same =
     rw e (class_of_more p b ∙ ap₂ (λ x t. x + cond t 1 0) (class_of_same p q b (λ k h. same k (omega arith))) (same b (omega arith))
     ∙ sym (class_of_more q b))
 
-pub class_map_is : (p : ℕ → Bool) (classes : List ℕ) → length classes ≡ 256 → ((k : ℕ) → k < 256 → slice_index classes k ≡ class_of p k) → classes ≡ class_map p
+pub class_map_is : (p : ℕ → Bool) (classes : List ℕ) → length classes ≡ 256 → ((k : ℕ) → k < 256 → slice_index classes k ≡ class_of p k)
+    → classes ≡ class_map p
 unfolding from_to
 class_map_is p classes long each = fill_by_all (class_of p) classes 256 0 long each
 
@@ -137,7 +138,8 @@ same_class-together p b c =
     (cases_lt b c)
 
 -- two bytes have one class of a class map exactly if they are together
-pub class_map-together : (p : ℕ → Bool) (b c : ℕ) → b < 256 → c < 256 → (slice_index (class_map p) b ≡ slice_index (class_map p) c) ↔ Together p b c
+pub class_map-together : (p : ℕ → Bool) (b c : ℕ) → b < 256 → c < 256 → (slice_index (class_map p) b ≡ slice_index (class_map p) c)
+    ↔ Together p b c
 class_map-together p b c lb lc = rw (slice_index-class_map p b lb, slice_index-class_map p c lc) (same_class-together p b c)
 
 -- ---- classes start at 0 and rise by at most 1, so each number up to the last class is one

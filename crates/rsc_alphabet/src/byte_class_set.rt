@@ -99,7 +99,7 @@ impl ByteClassSet {
         self.add_boundaries(&set.run_starts(), &set.run_ends());
     }
 
-    /// Adds the boundaries of another partition: two bytes are together after it if they were, and are in the other one too.
+    /// Adds the boundaries of another partition: two bytes are together after it if they were, and are in the other one too. The original lacks it.
     ///
     /// # Examples
     ///
@@ -134,7 +134,7 @@ impl ByteClassSet {
     /// Classes are intervals: two bytes that are in the same ranges have different classes if a byte between them isn't.
     pub fn byte_classes(&self) -> ByteClasses
         ensures value { result ≡ class_map (sets.contains self.now) }
-        ensures below { (k : ℕ) → sets.contains self.now k ≡ true → k < 255 }
+        ensures most { (k : ℕ) → sets.contains self.now k ≡ true → k < 255 }
         ensures bounded { LastClassIsGreatest result }
     {
         // Each class is counted by itself: there is no running number.
@@ -146,7 +146,7 @@ impl ByteClassSet {
     }
 }
 
-/// The classes after each range was separated from all other bytes, as by [`ByteClassSet::set_range`] of each.
+/// The classes after each range was separated from all other bytes, as by [`ByteClassSet::set_range`] of each. The original lacks it.
 ///
 /// Two bytes have one class exactly if each range holds all bytes from the one to the other, or none of them.
 /// Needs the first byte of each pair to be at most the second.

@@ -56,7 +56,7 @@ impl Default for ByteClasses {
 impl ByteClasses {
     /// The map that gives each byte the class 0.
     pub fn empty() -> ByteClasses
-        ensures len { length result ≡ 256 }
+        ensures entries { length result ≡ 256 }
         ensures zero { (b : ℕ) → b < 256 → slice_index result b ≡ 0 }
         ensures bounded { LastClassIsGreatest result }
     {

@@ -106,7 +106,7 @@ impl ByteSet {
         ByteSet { low: 0, high: 0 }
     }
 
-    /// Makes a byte a member.
+    /// Adds a byte.
     #[inline]
     pub fn add(&mut self, byte: u8)
         ensures value { self.new ≡ sets.insert self.old byte }
@@ -119,7 +119,7 @@ impl ByteSet {
         }
     }
 
-    /// Makes a byte no member.
+    /// Removes a byte from the set.
     #[inline]
     pub fn remove(&mut self, byte: u8)
         ensures value { self.new ≡ sets.remove self.old byte }
@@ -136,7 +136,7 @@ impl ByteSet {
     #[inline]
     pub fn contains(&self, byte: u8) -> bool
         ensures value { result ≡ sets.contains self.now byte }
-        ensures bytes { (b : ℕ) → sets.contains self.now b ≡ true → b < 256 }
+        ensures most { (b : ℕ) → sets.contains self.now b ≡ true → b < 256 }
     {
         has_bit(self.mask_with(byte), byte % 128)
     }
@@ -195,7 +195,7 @@ impl ByteSet {
     #[inline]
     pub fn iter_ranges(&self) -> ByteSetRangeIter<'_>
         ensures value { result ≡ runs self.now }
-        ensures ordered { All (λ r. r.0 ≤ r.1) result }
+        ensures order { All (λ r. r.0 ≤ r.1) result }
     {
         ByteSetRangeIter {
             starts: Ascending::new(self.run_starts()),
@@ -208,7 +208,7 @@ impl ByteSet {
     #[inline]
     pub(crate) fn count_below(&self, byte: u8) -> u8
         ensures value { result ≡ class_of (sets.contains self.now) byte }
-        ensures bytes { (b : ℕ) → sets.contains self.now b ≡ true → b < 256 }
+        ensures most { (b : ℕ) → sets.contains self.now b ≡ true → b < 256 }
     {
         if byte < 128 {
             ones_below(self.low, byte)
@@ -259,7 +259,7 @@ impl ByteSet {
     #[inline]
     pub(crate) fn union(&self, other: &ByteSet) -> ByteSet
         ensures members { (b : ℕ) → sets.contains result b ≡ (sets.contains self.now b || sets.contains other.now b) }
-        ensures bytes { (b : ℕ) → sets.contains result b ≡ true → b < 256 }
+        ensures most { (b : ℕ) → sets.contains result b ≡ true → b < 256 }
     {
         ByteSet {
             low: either(self.low, other.low),
@@ -291,9 +291,9 @@ impl ByteSet {
 
     // The members that aren't members of the other set.
     #[inline(always)]
-    fn minus(&self, other: &ByteSet) -> ByteSet
+    fn subtract(&self, other: &ByteSet) -> ByteSet
         ensures members { (b : ℕ) → sets.contains result b ≡ (sets.contains self.now b && not (sets.contains other.now b)) }
-        ensures bytes { (b : ℕ) → sets.contains self.now b ≡ true → b < 256 }
+        ensures most { (b : ℕ) → sets.contains self.now b ≡ true → b < 256 }
     {
         ByteSet {
             low: difference(self.low, other.low),
@@ -306,7 +306,7 @@ impl ByteSet {
     pub(crate) fn run_starts(&self) -> ByteSet
         ensures { (b : ℕ) → sets.contains result b ≡ begins_run self.now b }
     {
-        self.minus(&self.successors())
+        self.subtract(&self.successors())
     }
 
     // The members that have no successor among the members.
@@ -314,14 +314,14 @@ impl ByteSet {
     pub(crate) fn run_ends(&self) -> ByteSet
         ensures { (b : ℕ) → sets.contains result b ≡ ends_run self.now b }
     {
-        self.minus(&self.predecessors())
+        self.subtract(&self.predecessors())
     }
 
     // The number that has a byte's bit.
     #[inline(always)]
     fn mask_with(&self, byte: u8) -> u128
         ensures value { has_bit result (byte % 128) ≡ sets.contains self.now byte }
-        ensures bytes { (b : ℕ) → sets.contains self.now b ≡ true → b < 256 }
+        ensures most { (b : ℕ) → sets.contains self.now b ≡ true → b < 256 }
     {
         if byte < 128 { self.low } else { self.high }
     }
@@ -331,7 +331,7 @@ impl ByteSet {
     pub(crate) fn block(&self, number: u8) -> u64
         requires { number < 4 }
         ensures bits { (i : ℕ) → i < 64 → has_bit result i ≡ sets.contains self.now (64 * number + i) }
-        ensures bytes { (b : ℕ) → sets.contains self.now b ≡ true → b < 256 }
+        ensures most { (b : ℕ) → sets.contains self.now b ≡ true → b < 256 }
     {
         match number {
             0 => lower_block(self.low),

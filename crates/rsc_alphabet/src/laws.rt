@@ -124,20 +124,16 @@ pub fn alike_bytes_share_their_ranges()
         IsTrue (are_alike ranges b (b + 1)) }
 {}
 
-/// A clone has its source's value.
-pub fn clones_are_equal()
+/// A clone is its source, and none is refused.
+pub fn clones_are_their_sources()
     ensures unit { (u v : Symbol) → ⟦<Unit as Clone>⟧.is_clone u v → v ≡ u }
+    ensures unit_accepted { (u : Symbol) → ⟦<Unit as Clone>⟧.is_infallible u }
     ensures byte_set { (s t : Numbers) → ⟦<ByteSet as Clone>⟧.is_clone s t → t ≡ s }
+    ensures byte_set_accepted { (s : Numbers) → ⟦<ByteSet as Clone>⟧.is_infallible s }
     ensures byte_class_set { (s t : Numbers) → ⟦<ByteClassSet as Clone>⟧.is_clone s t → t ≡ s }
+    ensures byte_class_set_accepted { (s : Numbers) → ⟦<ByteClassSet as Clone>⟧.is_infallible s }
     ensures byte_classes { (m n : List ℕ) → ⟦<ByteClasses as Clone>⟧.is_clone m n → n ≡ m }
-{}
-
-/// No clone is refused.
-pub fn clones_are_accepted()
-    ensures unit { (u : Symbol) → ⟦<Unit as Clone>⟧.is_infallible u }
-    ensures byte_set { (s : Numbers) → ⟦<ByteSet as Clone>⟧.is_infallible s }
-    ensures byte_class_set { (s : Numbers) → ⟦<ByteClassSet as Clone>⟧.is_infallible s }
-    ensures byte_classes { (m : List ℕ) → ⟦<ByteClasses as Clone>⟧.is_infallible m }
+    ensures byte_classes_accepted { (m : List ℕ) → ⟦<ByteClasses as Clone>⟧.is_infallible m }
 {}
 
 /// Equality of units is that of their values; equality of sets of bytes is that of their members.

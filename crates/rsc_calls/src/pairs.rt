@@ -35,7 +35,7 @@ fn pair_or_tag(alloc: Global) -> Result<Program<UnicodeWord>, Error> {
     let equals = builder.literal(b"=")?;
     let value = named(&builder, Some("value"))?;
     let pair = builder.concat(vec![in alloc; key, equals, value]?)?;
-    builder.pattern(pair)?;
+    builder.add_pattern(pair)?;
     let hash = builder.literal(b"#")?;
     let value = named(&builder, Some("value"))?;
     let tag = builder.then(hash, value)?;

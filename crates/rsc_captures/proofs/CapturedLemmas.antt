@@ -87,7 +87,8 @@ span_by_index c i lt = get_or-map-range_with_len (group_span c) 0 (matched_group
 
 -- ---- the pieces that the first groups cut, as a loop over the groups finds them
 
-all_some_push : {X : Type 0} (xs : List (Option X)) (ys : List X) (y : X) → all_some xs ≡ Some ys → all_some (xs ++ Some y ∷ []) ≡ Some (ys ++ y ∷ [])
+all_some_push : {X : Type 0} (xs : List (Option X)) (ys : List X) (y : X) → all_some xs ≡ Some ys
+    → all_some (xs ++ Some y ∷ []) ≡ Some (ys ++ y ∷ [])
 all_some_push [] ys y e = let none : [] ≡ ys = cc in rw (← none) refl
 all_some_push (None ∷ xs) ys y e = cc
 all_some_push {X} (Some x ∷ xs) ys y e =
@@ -125,7 +126,8 @@ found_none cut c = record { before = []; split = all_participating c; count = re
 
 module _ {cut : Span → Option (List ℕ)} {c : Captured} {next k : ℕ} {found : List (List ℕ)} (so_far : FoundSoFar cut c next k found) where
   -- one span more has its piece
-  pub found_more : (after : ℕ) (span : Span) (piece : List ℕ) → participating_from c next ≡ span ∷ participating_from c after → cut span ≡ Some piece
+  pub found_more : (after : ℕ) (span : Span) (piece : List ℕ) → participating_from c next ≡ span ∷ participating_from c after
+      → cut span ≡ Some piece
       → FoundSoFar cut c after (k + 1) (found ++ piece ∷ [])
   found_more after span piece step cuts = record {
     before = so_far.before ++ span ∷ [];

@@ -9,13 +9,15 @@ use Rattle.rsc_captures.proofs.SlotOwnersLemmas.{one_start, start_no_end}
 
 -- ---- two slots
 
-both : (span : Option Span) → option_and_then (λ from. option_map (λ to. let s : Span = record { start = from; end = to } in s) (option_map (λ s. s.end) span))
+both : (span : Option Span)
+    → option_and_then (λ from. option_map (λ to. let s : Span = record { start = from; end = to } in s) (option_map (λ s. s.end) span))
     (option_map (λ s. s.start) span) ≡ span
 both None = refl
 both (Some s) = refl
 
 -- the span that is written is there
-span_written : (offsets : List (Option ℕ)) (slot : ℕ) (span : Option Span) → slot + 1 < length offsets → span_at (with_span offsets slot span) slot ≡ span
+span_written : (offsets : List (Option ℕ)) (slot : ℕ) (span : Option Span) → slot + 1 < length offsets
+    → span_at (with_span offsets slot span) slot ≡ span
 span_written offsets slot span l =
     let first : List (Option ℕ) = set offsets slot (option_map (λ s. s.start) span) in
     let apart : slot ≢ slot + 1 = omega arith in

@@ -53,7 +53,8 @@ module _ {limit : ℕ} {lists : GroupLists} {p g : ℕ} (before : HasNoOtherBefo
       let group : suc h < group_count lists q = omega (arith, group.1) in
       group_before q (suc h) (omega arith) group earlier ∙ name_fault_clear (groups_of lists q) q (suc h) (name_of lists q (suc h)) (distinct group)
 
-  repeat_at : (q h : ℕ) (name : List ℕ) → h < group_count lists q → ComesBefore q h p g → is_repeat (groups_of lists q) h ≡ true → name_of lists q h ≡ Some name
+  repeat_at : (q h : ℕ) (name : List ℕ) → h < group_count lists q → ComesBefore q h p g → is_repeat (groups_of lists q) h ≡ true
+      → name_of lists q h ≡ Some name
       → group_fault limit lists q h ≡ Some (Duplicate q name)
   repeat_at q zero name group earlier repeats named = absurd (true≢false (sym repeats ∙ no_repeat_at_zero (groups_of lists q)))
   repeat_at q (suc h) name group earlier repeats named =
@@ -96,7 +97,8 @@ too_many {limit = limit} {lists = lists} p room earlier clear pattern more withi
     (explicit_group_at limit lists p (room + 1) (omega arith) ∙ rw limited refl)
 
 -- the limit on the slots of all groups
-pub past_limit : {limit : ℕ} {lists : GroupLists} (n p : ℕ) → length lists ≡ n → HasNoOtherBefore limit lists n 0 → p < n → limit < slots_end lists p
+pub past_limit : {limit : ℕ} {lists : GroupLists} (n p : ℕ) → length lists ≡ n → HasNoOtherBefore limit lists n 0 → p < n
+    → limit < slots_end lists p
     → ((q : ℕ) → q < p → slots_end lists q ≤ limit) → IsFirstOther limit lists n 0 (Some (TooManyGroups p (group_count lists p)))
 past_limit n p all before pattern past least = record {
   before = before;
@@ -165,7 +167,8 @@ module _ {limit : ℕ} {lists : GroupLists} (no_other : HasNoOtherFault limit li
   refuses_from n all (Some f) m = repeat_first no_other.groups f (rw all m)
 
 -- what holds of a fault, if there is one
-pub MatchOption-some_weaker : {X : Type 0} (o : Option X) (R : Type 0) (P Q : X → Type 0) → ((x : X) → P x → Q x) → MatchOption o R P → MatchOption o ⊤ Q
+pub MatchOption-some_weaker : {X : Type 0} (o : Option X) (R : Type 0) (P Q : X → Type 0) → ((x : X) → P x → Q x) → MatchOption o R P
+    → MatchOption o ⊤ Q
 MatchOption-some_weaker None R P Q weaker m = tt
 MatchOption-some_weaker (Some x) R P Q weaker m = weaker x m
 

@@ -3,7 +3,7 @@ pub mod CapturesLemmas  -- a span that is written into a group's slots is that g
 pub mod FaultsLayoutLemmas  -- the first fault of a list, from the first other fault and the first repeated name before it
 pub mod FaultsLemmas  -- what a group that isn't at fault says
 pub mod GroupsLemmas  -- the groups of a list as it is handed in, and the group of a name
-pub mod LayoutLemmas  -- where the names and the order of each pattern's groups are in the lists of all groups
+pub mod SharedListsLayoutLemmas  -- where the names and the order of each pattern's groups are in the lists of all groups
 pub mod NameIteratorsLemmas  -- the steps of the iterator over all groups, and how many it gives
 pub mod NamesLayoutLemmas  -- names in one text, and where those of each pattern begin, as one more is added
 pub mod OrderLayoutLemmas  -- the groups in the order of their names

@@ -35,7 +35,8 @@ pub next_stays : (lists : GroupLists) (p g next end : ℕ) → IsAt lists p g ne
 next_stays lists p g next end at more = record { at = at; group = grind (arith, at.group, at.at, at.ends, more); left = refl }
 
 -- the walk enters the next pattern
-pub next_enters : (lists : GroupLists) (p g next end first : ℕ) → IsFaultless max_index lists → IsAt lists p g next end → next ≡ end → p + 1 < length lists
+pub next_enters : (lists : GroupLists) (p g next end first : ℕ) → IsFaultless max_index lists → IsAt lists p g next end → next ≡ end
+    → p + 1 < length lists
     → first ≡ groups_before lists (p + 1 + 1) → IsNext lists p g (p + 1) 0 next first
 next_enters lists p g next end first faultless at done lt is = record {
   at = record {

@@ -188,7 +188,8 @@ module _ (groups : Groups) where
         rw named (ap is_lt (tied_itself name_total (Some name))) in
         let le : i ≤ j = ⊎_elim (λ (before : j < i). absurd (true≢false (sym (point.0 j 0 (omega arith) before) ∙ itself))) (λ (le : i ≤ j). le)
         (cases_lt j i) in
-        let up : is_lt (name_cmp (name_at groups (get_or order j 0)) (name_at groups (get_or order i 0))) ≡ false = not_less _ _ (not_before i j le index.1) in
+        let up : is_lt (name_cmp (name_at groups (get_or order j 0)) (name_at groups (get_or order i 0)))
+        ≡ false = not_less _ _ (not_before i j le index.1) in
         let first : name_at groups (get_or order i 0) ≡ Some name =
         same_from_both (name_at groups (get_or order i 0)) (Some name) (point.1 i 0 (omega arith) (omega (arith, le, index.1))) (rw named at up) in
         (omega (arith, le, index.1), first, omega (arith, groups_rise i j le index.1 (named ∙ sym first), at_j))

@@ -77,7 +77,8 @@ pairs_of_many groups q n count within rest many counts is at_most one all none p
         (cases_lt i (group_count groups q)))
 
 -- the rest by the slot of group 1, and its limit
-pub rest_by_slot : (groups : GroupLists) (q slot : ℕ) → slot_of groups q 1 ≡ Some slot → slot + 1 < 2 * all_groups groups → 2 * all_groups groups ≤ max_index
+pub rest_by_slot : (groups : GroupLists) (q slot : ℕ) → slot_of groups q 1 ≡ Some slot → slot + 1 < 2 * all_groups groups
+    → 2 * all_groups groups ≤ max_index
     → (1 ≤ slot / 2) × IsRest groups q (slot / 2 - 1) × (((slot / 2 - 1) + group_count groups q) ≤ max_index + 1) × (q ≤ slot / 2 - 1)
 rest_by_slot groups q slot is within limit =
     let facts = slot_facts groups q 1 slot is in

@@ -71,8 +71,10 @@ NoneSoFar lists p r s = (q h : ℕ) → q < p → h < group_count lists q → Co
 
 module _ (lists : GroupLists) (p : ℕ) where
   -- the first repeated name of a pattern, where no earlier pattern repeats one
-  pub repeat_of_pattern : (g r s : ℕ) (name : List ℕ) → HasNoRepeatBefore lists p 0 → g < group_count lists p → is_repeat (groups_of lists p) g ≡ true
-      → AreDistinctBelow (groups_of lists p) g → name_of lists p g ≡ Some name → ComesBefore p g r s → IsFirstRepeatBefore lists r s (Duplicate p name)
+  pub repeat_of_pattern : (g r s : ℕ) (name : List ℕ) → HasNoRepeatBefore lists p 0 → g < group_count lists p
+      → is_repeat (groups_of lists p) g ≡ true
+      → AreDistinctBelow (groups_of lists p) g → name_of lists p g ≡ Some name → ComesBefore p g r s
+      → IsFirstRepeatBefore lists r s (Duplicate p name)
   repeat_of_pattern g r s name none group repeats distinct named before = record {
     q = p;
     h = g;

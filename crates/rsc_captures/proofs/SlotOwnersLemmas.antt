@@ -135,7 +135,8 @@ number_within lists checked p (suc g) lt =
     let rises : explicit_before lists (p + 1) ≤ explicit_before lists (length lists) = sum_rises explicit_groups lists (p + 1) (length lists) (omega arith) in
     omega (arith, slot_explicit lists p g, before_more lists p pattern, all_groups_are lists checked)
 
-pub slot_within : (lists : GroupLists) → IsFaultless max_index lists → (p g slot : ℕ) → slot_of lists p g ≡ Some slot → slot + 1 < 2 * all_groups lists
+pub slot_within : (lists : GroupLists) → IsFaultless max_index lists → (p g slot : ℕ) → slot_of lists p g ≡ Some slot
+    → slot + 1 < 2 * all_groups lists
 slot_within lists checked p g slot is = let facts = slot_facts lists p g slot is in omega (arith, facts.1, number_within lists checked p g facts.0)
 
 -- all slots are within the limit: two for each group
@@ -152,7 +153,8 @@ slots_within_limit lists checked =
     (cases_lt 0 (length lists))
 
 -- a group's two slots are among all slots
-pub slot_among_all : (lists : GroupLists) → IsFaultless max_index lists → (p g : ℕ) → IfSome (slot_of lists p g) (λ slot. slot + 1 < 2 * all_groups lists)
+pub slot_among_all : (lists : GroupLists) → IsFaultless max_index lists → (p g : ℕ)
+    → IfSome (slot_of lists p g) (λ slot. slot + 1 < 2 * all_groups lists)
 slot_among_all lists faultless p g = elim (slot_of lists p g) as (λ o. slot_of lists p g ≡ o
     → IfSome o (λ slot. slot + 1 < 2 * all_groups lists)) [ None ↦ λ _. tt | Some slot ↦ slot_within lists faultless p g slot ] refl
 

@@ -4,7 +4,7 @@ pub mod Faults  -- the faults of a group list, and which of them is the first
 pub mod FaultsLayout  -- what the code knows of the faults of a list as it reads it
 pub mod Groups  -- group lists: for each pattern its groups in order, and for each group its name, if it has one
 pub mod Kinds  -- the fault that a kind of error names, none where it is out of memory, and what it prints
-pub mod Layout  -- what a group info holds: the names of all groups, where each pattern's names begin, and their order
+pub mod SharedListsLayout  -- what a group info holds: the names of all groups, where each pattern's names begin, and their order
 pub mod Lending  -- what writing through lent slots does to captures
 pub mod NameIterators  -- the iterators over the names of the groups: of one pattern, and of all patterns with the numbers of pattern and group
 pub mod NamesLayout  -- names as they are held, in one text

@@ -161,11 +161,12 @@ impl<A: Allocator + Clone + Drop> Captures<A> {
         self.pid
     }
 
-    /// The groups.
+    /// Its groups.
     #[inline]
     pub fn group_info(&self) -> &GroupInfo<A>
         ensures { result.now ≡ self.now.groups }
     {
+        // No wrong body: nothing else of its type is at hand.
         &self.group_info
     }
 
@@ -192,7 +193,7 @@ impl<A: Allocator + Clone + Drop> Captures<A> {
     {
         self.pid = None;
         self.pairs.clear();
-        empty(self.slots.as_mut_slice());
+        unset_all(self.slots.as_mut_slice());
     }
 
     /// Sets the pattern that matched. Any pattern will do, also one that the groups don't have.
@@ -204,7 +205,8 @@ impl<A: Allocator + Clone + Drop> Captures<A> {
         self.pairs = Pairs::of(&self.group_info, self.pid, self.slots.len());
     }
 
-    /// Sets the span of a group of the pattern that matched, or takes it away, and returns whether it did. The spans of all other groups stay.
+    /// Sets or clears the span of a group of the pattern that matched, and returns whether it did. The spans of all other groups stay.
+    /// The original lacks it.
     ///
     /// It does nothing where no pattern is set, where not both slots of the group are here, or where an offset is `usize::MAX`,
     /// which no slot holds.
@@ -220,8 +222,8 @@ impl<A: Allocator + Clone + Drop> Captures<A> {
     /// ```
     #[inline]
     pub fn set_group(&mut self, index: usize, span: Option<Span>) -> bool
-        ensures done { IsTrue result ↔ (IsTrue (is_some (slot_here self.old index)) × ForSome span FitsSlots) }
-        ensures written { IsTrue result →
+        ensures accepted { IsTrue result ↔ (IsTrue (is_some (slot_here self.old index)) × ForSome span FitsSlots) }
+        ensures value { IsTrue result →
             ForSome (slot_here self.old index) (λ slot. self.new ≡ record self.old { offsets = with_span self.old.offsets slot span }) }
         ensures kept { ¬ (IsTrue result) → self.new ≡ self.old }
         ensures span { IsTrue result → group_span self.new index ≡ span }
@@ -234,8 +236,8 @@ impl<A: Allocator + Clone + Drop> Captures<A> {
     #[tactic(auto, using(crate::proofs::PairsLayoutLemmas::here))]
     #[inline]
     fn write_group(&mut self, index: usize, span: Option<Span>) -> bool
-        ensures done { IsTrue result ↔ (IsTrue (is_some (slot_here self.old index)) × ForSome span FitsSlots) }
-        ensures written { IsTrue result →
+        ensures accepted { IsTrue result ↔ (IsTrue (is_some (slot_here self.old index)) × ForSome span FitsSlots) }
+        ensures value { IsTrue result →
             ForSome (slot_here self.old index) (λ slot. self.new ≡ record self.old { offsets = with_span self.old.offsets slot span }) }
         ensures kept { ¬ (IsTrue result) → self.new ≡ self.old }
     {
@@ -309,7 +311,7 @@ impl<A: Allocator + Clone + Drop> Captures<A> {
         self.get_group(index)
     }
 
-    /// The span of each group of the pattern that matched, in order, or `None` for one that takes no part.
+    /// The span of each group of the pattern that matched, in order, or `None` for one that isn't set.
     #[tactic(auto, using(crate::proofs::CapturedLemmas::spans_counted))]
     #[inline]
     pub fn iter(&self) -> CapturesPatternIter<'_, A>
@@ -373,9 +375,9 @@ fn offsets_of(span: Option<Span>) -> Option<(Option<NonMaxUsize>, Option<NonMaxU
     }
 }
 
-// Empties each slot. `fill` writes the last one apart, which takes longer where they are few.
+// Makes each slot `None`. `fill` writes the last one apart, which takes longer where they are few.
 #[inline]
-fn empty(slots: &mut [Option<NonMaxUsize>])
+fn unset_all(slots: &mut [Option<NonMaxUsize>])
     ensures { slots.new ≡ replicate (length slots.old) None }
 {
     for slot in 0..slots.len() {

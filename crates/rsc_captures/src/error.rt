@@ -109,6 +109,7 @@ impl<A: Allocator> GroupInfoError<A> {
     pub fn kind(&self) -> &GroupInfoErrorKind<A>
         ensures { fault_of result.now ≡ self.now }
     {
+        // No wrong body: nothing else of its type is at hand.
         &self.kind
     }
 }

@@ -7,16 +7,16 @@ ghost use Rattle.rsc_captures.specs.Faults.{IsFaultless, RefusesFor};
 ghost use Rattle.rsc_captures.specs.FaultsLayout.{HasNoOtherFault};
 ghost use Rattle.rsc_captures.specs.NameIterators.{all_names_of};
 ghost use Rattle.rsc_captures.specs.SlotOwners.{IsSlotOf, IsOwned};
-ghost use Rattle.rsc_captures.specs.Layout.{AreOrdered};
+ghost use Rattle.rsc_captures.specs.SharedListsLayout.{AreOrdered};
 ghost use Rattle.rsc_captures.specs.RepeatsLayout.{HasNoRepeatBefore, IsFirstRepeatBefore};
 
 use crate::error::{GroupInfoError, duplicate};
 use crate::faults::first_other_fault;
-use crate::layout::{SharedLists, firsts_of, hints_of};
 use crate::name_iterators::{GroupInfoAllNames, GroupInfoPatternNames};
 use crate::names::NameList;
 use crate::order::add_order;
 use crate::repeats::{first_repeat_before, repeat_in_order, repeated};
+use crate::shared_lists::{SharedLists, firsts_of, hints_of};
 use rsc_primitives::PatternID;
 use std::alloc::{AllocError, Allocator, Global};
 use std::marker::Model;
@@ -86,7 +86,7 @@ impl<A: Allocator + Clone + Drop> GroupInfo<A> {
     }
 
     /// The groups of these lists, as by [`GroupInfo::new`], where at most `limit` slots are allowed instead of 2147483646; the limit itself
-    /// may be no greater than that.
+    /// may be no greater than that. The original lacks it.
     ///
     /// A pattern has too many groups where twice the explicit groups read so far is above the limit, or where its slots
     /// are, once those of the first groups are counted too. The greatest number of a pattern stays as it is.
@@ -189,7 +189,7 @@ impl<A: Allocator + Clone + Drop> GroupInfo<A> {
     #[inline]
     pub fn group_len(&self, pid: PatternID) -> usize
         ensures value { result ≡ group_count self.now pid }
-        ensures whole { pid < length self.now → 0 < result }
+        ensures some_group { pid < length self.now → 0 < result }
     {
         self.lists().group_len(pid.as_usize())
     }
@@ -238,7 +238,7 @@ impl<A: Allocator + Clone + Drop> GroupInfo<A> {
         ensures value { result ≡ 2 * all_groups self.now }
         ensures most { result ≤ max_index }
         ensures owned { (s : ℕ) → s < result → IsOwned self.now s }
-        ensures once { (s p g q h : ℕ) → IsSlotOf self.now p g s → IsSlotOf self.now q h s → (p ≡ q) × (g ≡ h) }
+        ensures owner { (s p g q h : ℕ) → IsSlotOf self.now p g s → IsSlotOf self.now q h s → (p ≡ q) × (g ≡ h) }
     {
         2 * self.lists().all_group_len()
     }

@@ -21,12 +21,12 @@ mod extract;
 mod faults;
 mod group_info;
 pub mod laws;
-mod layout;
 mod name_iterators;
 mod names;
 mod order;
 mod pairs;
 mod repeats;
+mod shared_lists;
 mod span_iterator;
 
 pub use captures::Captures;

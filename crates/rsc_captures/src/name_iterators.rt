@@ -8,8 +8,8 @@ ghost use Rattle.rsc_captures.specs.Faults.{IsFaultless};
 ghost use Rattle.rsc_captures.specs.Groups.{groups_of};
 ghost use Rattle.rsc_captures.specs.NameIterators.{named_group, all_names_of};
 
-use crate::layout::SharedLists;
 use crate::names::NameList;
+use crate::shared_lists::SharedLists;
 use rsc_primitives::PatternID;
 use std::alloc::{Allocator, Global};
 use std::marker::Model;
@@ -106,7 +106,7 @@ pub struct GroupInfoAllNames<'a, A: Allocator = Global> {
 impl<'a, A: Allocator> Model for GroupInfoAllNames<'a, A> {
     ghost use Rattle.std.specs.Prelude.{List};
     ghost use Rattle.rsc_captures.specs.NameIterators.{NamedGroup, names_left};
-    ghost use Rattle.rsc_captures.specs.Layout.{IsAt};
+    ghost use Rattle.rsc_captures.specs.SharedListsLayout.{IsAt};
 
     ghost Value = { List NamedGroup };
 

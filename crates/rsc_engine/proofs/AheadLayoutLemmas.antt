@@ -5,7 +5,7 @@ use Rattle.rsc_captures.specs.Captured.{Captured}
 use Rattle.rsc_search.specs.Matches.{Matched}
 use Rattle.rsc_nfa.specs.Steps.{place}
 use Rattle.rsc_engine.specs.Searches.{Search}
-use Rattle.rsc_engine.specs.Preferred.{IsFirstMatch, HasNone}
+use Rattle.rsc_engine.specs.Preferred.{IsFirstMatch, HasNoFirstMatch}
 use Rattle.rsc_engine.specs.declared.dfa.pass_table.PassRow.{PassRow}
 use Rattle.rsc_engine.specs.BackwardLayout.{IsBegun}
 use Rattle.rsc_engine.specs.LogLayout.{IsLoggedAt, IsLogged}
@@ -16,7 +16,8 @@ use Rattle.rsc_engine.proofs.PassTableLayoutLemmas.{some_same}
 use Rattle.rsc_engine.proofs.ForwardStepsLemmas.{run-rises}
 
 -- the match from where the next one begins
-pub ahead-first : (e : Search) (from at : ℕ) (captures : Captured) (found : Matched) → e.start ≤ from → IsNextBegin e from at → IsMatchAt e at captures found
+pub ahead-first : (e : Search) (from at : ℕ) (captures : Captured) (found : Matched) → e.start ≤ from → IsNextBegin e from at
+    → IsMatchAt e at captures found
     → IsFirstMatch (start_at e from) captures found
 ahead-first e from at captures found low next m = record {
   run = m.recorded.goes.run;
@@ -46,7 +47,7 @@ ahead-order e at p j x = omega (
   x.end,
 )
 
-pub ahead-none : (e : Search) (from : ℕ) → e.start ≤ from → HasNoBegin e from → HasNone (start_at e from)
+pub ahead-none : (e : Search) (from : ℕ) → e.start ≤ from → HasNoBegin e from → HasNoFirstMatch (start_at e from)
 ahead-none e from low none at may other match =
     none at may (record { run = other; is_match = match_shift e from e.start (e.start_state, at) other (omega (arith, low, may.start)) match })
 
@@ -81,7 +82,8 @@ module _ (e : Search) (i end : ℕ) (rows : List PassRow) (log : List ℕ) (is_e
 -- ---- what is recorded
 
 pub match-at : (e : Search) (at p j : ℕ) (slots : List (Option ℕ)) (captures : Captured) (found : Matched) → IsRecorded e at p j slots
-    → captures.offsets ≡ slots → captures.pattern ≡ Some p → found.pattern ≡ p → found.span.start ≡ at → found.span.end ≡ j → IsMatchAt e at captures found
+    → captures.offsets ≡ slots → captures.pattern ≡ Some p → found.pattern ≡ p → found.span.start ≡ at → found.span.end ≡ j
+    → IsMatchAt e at captures found
 match-at e at p j slots captures found r is_slots is_set is_pattern is_start is_end = record {
   start = is_start;
   pattern = rw is_pattern is_set;

@@ -12,8 +12,8 @@ use Rattle.rsc_engine.specs.DecidesLayout.{IsUnseenMatch, IsHopeless, IsBest, Is
 use Rattle.rsc_engine.specs.PassesLayout.{IsNoFork}
 use Rattle.rsc_engine.specs.ArrivalsLayout.{ArrivesOver}
 use Rattle.rsc_engine.specs.BackwardLayout.{Lists}
-use Rattle.rsc_engine.specs.OrderedLayout.{IsWayOn}
-use Rattle.rsc_engine.specs.declared.dfa.ordered.Way.TheVariants.{One, Two}
+use Rattle.rsc_engine.specs.OrderedLayout.{IsActionOf}
+use Rattle.rsc_engine.specs.declared.dfa.ordered.Action.TheVariants.{One, Two}
 use Rattle.rsc_engine.specs.AlongLayout.{IsInPlace, all_at, DecidesAlong}
 use Rattle.rsc_engine.proofs.ForwardStepsLemmas.{match-one, avoids-one, first_of_fork, open-more, best-less, best-before, hopeless-before, best-over, hopeless-over}
 
@@ -55,13 +55,15 @@ hopeless-fork e i seen after s a b g is none other = hopeless-before e i seen af
 ))
 
 -- the best run from the first way is the best from the fork, and if no match is reached by it, the best from the second
-pub best-first : (e : Search) (i : ℕ) (seen after : ℕ → Bool) (s a b : ℕ) (run : List (ℕ × ℕ)) → IsMore seen s after → seen s ≡ false → IsPlace e (s, i)
+pub best-first : (e : Search) (i : ℕ) (seen after : ℕ → Bool) (s a b : ℕ) (run : List (ℕ × ℕ)) → IsMore seen s after → seen s ≡ false
+    → IsPlace e (s, i)
     → slice_get e.states s ≡ Some (Fork a b) → IsBest e i after a run → IsBest e i seen s ((s, i) ∷ run)
 best-first e i seen after s a b run g fresh there is best =
     best-before e i seen after s a run g fresh there (rw is (inl refl, refl)) (λ q l. (rw is at l).1)
     (λ c d fork apart. absurd (apart (first_of_fork a b c d (sym is ∙ fork)))) best
 
-pub best-second : (e : Search) (i : ℕ) (seen after : ℕ → Bool) (s a b : ℕ) (run : List (ℕ × ℕ)) → IsMore seen s after → seen s ≡ false → IsPlace e (s, i)
+pub best-second : (e : Search) (i : ℕ) (seen after : ℕ → Bool) (s a b : ℕ) (run : List (ℕ × ℕ)) → IsMore seen s after → seen s ≡ false
+    → IsPlace e (s, i)
     → slice_get e.states s ≡ Some (Fork a b) → IsHopeless e i after a → IsBest e i after b run → IsBest e i seen s ((s, i) ∷ run)
 best-second e i seen after s a b run g fresh there is none best =
     best-before e i seen after s b run g fresh there (rw is (inr refl, refl)) (λ q l. (rw is at l).1)
@@ -150,7 +152,8 @@ module _ (e : Search) (from i : ℕ) (front : List (ℕ × ℕ)) where
       )
 
       -- over the byte the preferred run goes on
-      pub along-over : (t : ℕ) → IsPlace e (s, i) → IsNoFork e s → Leads e (s, i) (t, i + 1) → (run : List (ℕ × ℕ)) → IsBest e (i + 1) unseen t run
+      pub along-over : (t : ℕ) → IsPlace e (s, i) → IsNoFork e s → Leads e (s, i) (t, i + 1) → (run : List (ℕ × ℕ))
+          → IsBest e (i + 1) unseen t run
           → IsPreferred e (e.start_state, from) (((front ++ all_at i trail) ++ (s, i) ∷ []) ++ run)
       along-over t there no_fork leads run best = subst (λ (l : List (ℕ × ℕ)). IsPreferred e (e.start_state, from) l)
           (sym (append_assoc (front ++ all_at i trail) ((s, i) ∷ []) run))
@@ -216,7 +219,7 @@ marks seen s = record {
 -- ---- what a state does, if steps that lead to no match are left out
 
 -- one step leads on, with no byte
-pub in-place-single : (e : Search) (i s t : ℕ) → IsPlace e (s, i) → IsWayOn e i s (One t) → IsInPlace e i s t
+pub in-place-single : (e : Search) (i s t : ℕ) → IsPlace e (s, i) → IsActionOf e i s (One t) → IsInPlace e i s t
 in-place-single e i s t there way = record {
   best = λ seen after g fresh run best. best-before e i seen after s t run g fresh there way.2 (λ q l. (way.3 q l).1)
       (λ a b fork apart. absurd (way.1 a b fork)) best;
@@ -225,7 +228,7 @@ in-place-single e i s t there way = record {
 }
 
 -- from the first way of a fork no match is reached
-pub in-place-second : (e : Search) (i s a b : ℕ) → IsPlace e (s, i) → IsWayOn e i s (Two a b) → ((seen : ℕ → Bool) → IsHopeless e i seen a)
+pub in-place-second : (e : Search) (i s a b : ℕ) → IsPlace e (s, i) → IsActionOf e i s (Two a b) → ((seen : ℕ → Bool) → IsHopeless e i seen a)
     → IsInPlace e i s b
 in-place-second e i s a b there is none = record {
   best = λ seen after g fresh run best. best-second e i seen after s a b run g fresh there is (none after) best;

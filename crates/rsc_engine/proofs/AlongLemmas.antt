@@ -12,13 +12,13 @@ use Rattle.rsc_engine.specs.Searches.{Search}
 use Rattle.rsc_engine.specs.Runs.{Leads, IsPlace, AreRecords}
 use Rattle.rsc_engine.specs.RowsLayout.{AreStates}
 use Rattle.rsc_engine.specs.DecidesLayout.{last_of, IsBest, IsMore, unseen}
-use Rattle.rsc_engine.specs.declared.dfa.ordered.Way.TheVariants.{Stuck, One, Over, Two, Match}
+use Rattle.rsc_engine.specs.declared.dfa.ordered.Action.TheVariants.{Stuck, One, OverByte, Two, Match}
 use Rattle.rsc_engine.specs.GroupsLayout.{AreEmpty}
 use Rattle.rsc_engine.specs.Preferred.{IsPreferred, IsFirstMatch}
 use Rattle.rsc_engine.specs.ForwardLayout.{search_up_to}
 use Rattle.rsc_engine.specs.ArrivalsLayout.{Arrives, ArrivesOver}
 use Rattle.rsc_engine.specs.BackwardLayout.{IsStartOf, Lists}
-use Rattle.rsc_engine.specs.AlongLayout.{GoesTo, IsRecorded, AreRecordsTo, IsLed, AreBelow, IsWayAlong, all_at, DecidesAlong}
+use Rattle.rsc_engine.specs.AlongLayout.{GoesTo, IsRecorded, AreRecordsTo, IsLed, AreBelow, IsActionAlong, all_at, DecidesAlong}
 use Rattle.rsc_engine.proofs.AlongLayoutLemmas.{way-more, along-back, along-again, along-off, along-single, along-fork, along-over, along-match}
 use Rattle.rsc_engine.proofs.BackwardLemmas.{first-down}
 use Rattle.rsc_engine.proofs.ForwardStepsLemmas.{run-rises}
@@ -46,7 +46,8 @@ recorded-cons states p [] slot l = absurd (omega (arith, l))
 recorded-cons states p (q ∷ rest) slot l = refl
 
 -- a place whose state records nothing
-pub recorded_quiet : (states : List State) (p : ℕ × ℕ) (rest : List (ℕ × ℕ)) (slot : ℕ) → 0 < length rest → is_capture_of slot (slice_get states p.0) ≡ false
+pub recorded_quiet : (states : List State) (p : ℕ × ℕ) (rest : List (ℕ × ℕ)) (slot : ℕ) → 0 < length rest
+    → is_capture_of slot (slice_get states p.0) ≡ false
     → recorded states (p ∷ rest) slot ≡ recorded states rest slot
 recorded_quiet states p rest slot l quiet =
     recorded-cons states p rest slot l
@@ -87,7 +88,8 @@ records-first states front i slots had q s l = rw (append-nil front) (had q s l)
 -- a state more of the trail
 pub records-more : (states : List State) (front : List (ℕ × ℕ)) (i s : ℕ) (trail more : List ℕ) (state : State) (old new : List (Option ℕ))
     → more ≡ trail ++ s ∷ [] → slice_get states s ≡ Some state → length new ≡ length old
-    → ((slot : ℕ) → slot < length new → get_or new slot None ≡ or_earlier (cond (is_capture_of slot (Some state)) (Some i) None) (get_or old slot None))
+    → ((slot : ℕ) → slot < length new
+    → get_or new slot None ≡ or_earlier (cond (is_capture_of slot (Some state)) (Some i) None) (get_or old slot None))
     → AreRecordsTo states (front ++ all_at i trail) old → AreRecordsTo states (front ++ all_at i more) new
 records-more states front i s trail more state old new grown is len wrote had q slot there =
     wrote slot there
@@ -101,7 +103,8 @@ records-more states front i s trail more state old new grown is len wrote had q 
 
 -- a place whose state records nothing
 pub records-quiet : (states : List State) (front : List (ℕ × ℕ)) (p : ℕ × ℕ) (slots : List (Option ℕ))
-    → ((slot : ℕ) → is_capture_of slot (slice_get states p.0) ≡ false) → AreRecordsTo states front slots → AreRecordsTo states (front ++ p ∷ []) slots
+    → ((slot : ℕ) → is_capture_of slot (slice_get states p.0) ≡ false) → AreRecordsTo states front slots
+    → AreRecordsTo states (front ++ p ∷ []) slots
 records-quiet states front p slots quiet had q slot there =
     had p slot there
     ∙ ap (λ (b : Bool). or_earlier (cond b (Some p.1) None) (recorded states (front ++ p ∷ []) slot)) (sym (quiet slot))
@@ -136,7 +139,8 @@ below-set n seen s v l small below t = ⊎_elim
 -- ---- the loop
 
 -- what the loop keeps: the state here, and then the stack, decide how the preferred run goes on, from the slots as they were
-pub record IsPassing (e : Search) (n i stamp sid here : ℕ) (list : List ℕ) (slots : List (Option ℕ)) (seen : List ℕ) (stack : List (ℕ × ℕ)) (trail : List ℕ)
+pub record IsPassing (e : Search) (n i stamp sid here : ℕ) (list : List ℕ) (slots : List (Option ℕ)) (seen : List ℕ) (stack : List (ℕ × ℕ))
+    (trail : List ℕ)
     : Type 0 where
   pub len : length seen ≡ n
   pub below : AreBelow (stamp + 1) seen
@@ -147,7 +151,8 @@ pub record IsPassing (e : Search) (n i stamp sid here : ℕ) (list : List ℕ) (
       → DecidesAlong e from i (seen_at stamp seen) w.front trail ((here, length trail) ∷ reverse stack)
 
 -- what it has left, once the state here decides nothing
-pub record IsLeft (e : Search) (n i stamp sid : ℕ) (list : List ℕ) (slots : List (Option ℕ)) (seen : List ℕ) (stack : List (ℕ × ℕ)) (trail : List ℕ)
+pub record IsLeft (e : Search) (n i stamp sid : ℕ) (list : List ℕ) (slots : List (Option ℕ)) (seen : List ℕ) (stack : List (ℕ × ℕ))
+    (trail : List ℕ)
     : Type 0 where
   pub len : length seen ≡ n
   pub below : AreBelow (stamp + 1) seen
@@ -156,7 +161,8 @@ pub record IsLeft (e : Search) (n i stamp sid : ℕ) (list : List ℕ) (slots : 
   pub on : (from : ℕ) → Lists (λ s. ArrivesOver e s i) list → (w : IsLed e from sid i slots)
       → DecidesAlong e from i (seen_at stamp seen) w.front trail (reverse stack)
 
-pub passing-first : {e : Search} {n i stamp sid : ℕ} {list : List ℕ} {slots : List (Option ℕ)} {seen : List ℕ} → length seen ≡ n → AreBelow stamp seen → sid < n
+pub passing-first : {e : Search} {n i stamp sid : ℕ} {list : List ℕ} {slots : List (Option ℕ)} {seen : List ℕ} → length seen ≡ n
+    → AreBelow stamp seen → sid < n
     → IsPassing e n i stamp sid sid list slots seen [] []
 passing-first {e} {n} {i} {stamp} {sid} {list} {slots} {seen} len below there = record {
   len = len;
@@ -189,11 +195,13 @@ stack-there n stack x all =
     get_or-append_right stack (x ∷ []) (length stack) (length stack) x refl (omega arith) ∙ ap (λ (k : ℕ). get_or (x ∷ []) k x) none in
     subst (λ (y : ℕ × ℕ). y.0 < n) here (all (length stack) x (omega (arith, length-append stack (x ∷ []))))
 
-stack-rest : (n : ℕ) (stack : List (ℕ × ℕ)) (x : ℕ × ℕ) → All (λ (y : ℕ × ℕ). y.0 < n) (stack ++ x ∷ []) → All (λ (y : ℕ × ℕ). y.0 < n) stack
+stack-rest : (n : ℕ) (stack : List (ℕ × ℕ)) (x : ℕ × ℕ) → All (λ (y : ℕ × ℕ). y.0 < n) (stack ++ x ∷ [])
+    → All (λ (y : ℕ × ℕ). y.0 < n) stack
 stack-rest n stack x all k d l =
     subst (λ (y : ℕ × ℕ). y.0 < n) (get_or_append_left stack (x ∷ []) d k l) (all k d (omega (arith, l, length-append stack (x ∷ []))))
 
-stack-more : (n : ℕ) (stack : List (ℕ × ℕ)) (x : ℕ × ℕ) → All (λ (y : ℕ × ℕ). y.0 < n) stack → x.0 < n → All (λ (y : ℕ × ℕ). y.0 < n) (stack ++ x ∷ [])
+stack-more : (n : ℕ) (stack : List (ℕ × ℕ)) (x : ℕ × ℕ) → All (λ (y : ℕ × ℕ). y.0 < n) stack → x.0 < n
+    → All (λ (y : ℕ × ℕ). y.0 < n) (stack ++ x ∷ [])
 stack-more n stack x all there k d l = ⊎_elim
     (λ (h : k < length stack). subst (λ (y : ℕ × ℕ). y.0 < n) (sym (get_or_append_left stack (x ∷ []) d k h)) (all k d h))
     (λ (h : length stack ≤ k).
@@ -289,7 +297,7 @@ module _ {e : Search} {n i stamp sid here : ℕ} {list : List ℕ} {slots : List
     trail_after = states-push n trail here f.states f.here_there
 
     -- from the state no match is reached
-    pub passing-stuck : (Lists (λ s. ArrivesOver e s i) list → IsWayAlong e i here Stuck) → IsLeft e n i stamp sid list slots after stack trail
+    pub passing-stuck : (Lists (λ s. ArrivesOver e s i) list → IsActionAlong e i here Stuck) → IsLeft e n i stamp sid list slots after stack trail
     passing-stuck way = record {
       len = len_after;
       below = below-after;
@@ -299,7 +307,7 @@ module _ {e : Search} {n i stamp sid here : ℕ} {list : List ℕ} {slots : List
           (way lists (seen_at stamp seen));
     }
 
-    pub passing-one : (t : ℕ) → (Lists (λ s. ArrivesOver e s i) list → IsWayAlong e i here (One t)) → t < n
+    pub passing-one : (t : ℕ) → (Lists (λ s. ArrivesOver e s i) list → IsActionAlong e i here (One t)) → t < n
         → IsPassing e n i stamp sid t list slots after stack (trail ++ here ∷ [])
     passing-one t way l = record {
       len = len_after;
@@ -311,7 +319,7 @@ module _ {e : Search} {n i stamp sid here : ℕ} {list : List ℕ} {slots : List
           (way lists);
     }
 
-    pub passing-two : (a b : ℕ) → (Lists (λ s. ArrivesOver e s i) list → IsWayAlong e i here (Two a b)) → (a < n) × (b < n)
+    pub passing-two : (a b : ℕ) → (Lists (λ s. ArrivesOver e s i) list → IsActionAlong e i here (Two a b)) → (a < n) × (b < n)
         → IsPassing e n i stamp sid a list slots after (stack ++ (b, length (trail ++ here ∷ [])) ∷ []) (trail ++ here ∷ [])
     passing-two a b way l = record {
       len = len_after;
@@ -329,7 +337,7 @@ module _ {e : Search} {n i stamp sid here : ℕ} {list : List ℕ} {slots : List
     -- what the trail's states record was written
     module _ (new : List (Option ℕ))
         (wrote : (front : List (ℕ × ℕ)) → AreRecordsTo e.states front slots → AreRecordsTo e.states (front ++ all_at i trail) new) where
-      pub found-over : (t : ℕ) → (Lists (λ s. ArrivesOver e s i) list → IsWayAlong e i here (Over t)) → (from : ℕ)
+      pub found-over : (t : ℕ) → (Lists (λ s. ArrivesOver e s i) list → IsActionAlong e i here (OverByte t)) → (from : ℕ)
           → Lists (λ s. ArrivesOver e s i) list → IsLed e from sid i slots → IsLed e from t (i + 1) new
       found-over t along from lists w =
           let way = (along lists).0 in
@@ -344,7 +352,7 @@ module _ {e : Search} {n i stamp sid here : ℕ} {list : List ℕ} {slots : List
             records = records-quiet e.states (w.front ++ all_at i trail) (here, i) new (λ slot. over-quiet e here t i slot way.2) (wrote w.front w.records);
           }
 
-      pub found-match : (q : ℕ) → (Lists (λ s. ArrivesOver e s i) list → IsWayAlong e i here (Match q)) → (from : ℕ)
+      pub found-match : (q : ℕ) → (Lists (λ s. ArrivesOver e s i) list → IsActionAlong e i here (Match q)) → (from : ℕ)
           → Lists (λ s. ArrivesOver e s i) list → IsLed e from sid i slots → IsRecorded e from q i new
       found-match q along from lists w =
           let way = along lists in
@@ -360,7 +368,8 @@ module _ {e : Search} {n i stamp sid here : ℕ} {list : List ℕ} {slots : List
           }
 
 -- something is left before the run's end
-pub left-never : {e : Search} {n i stamp sid : ℕ} {list : List ℕ} {slots : List (Option ℕ)} {seen : List ℕ} {trail : List ℕ} (stack : List (ℕ × ℕ))
+pub left-never : {e : Search} {n i stamp sid : ℕ} {list : List ℕ} {slots : List (Option ℕ)} {seen : List ℕ} {trail : List ℕ} (stack : List
+    (ℕ × ℕ))
     → IsLeft e n i stamp sid list slots seen stack trail → stack ≡ [] → (from : ℕ) → Lists (λ s. ArrivesOver e s i) list
     → IsLed e from sid i slots → ⊥
 left-never [] f none from lists w = f.on from lists w
@@ -368,7 +377,8 @@ left-never (x ∷ stack) f none from lists w = absurd (cc none)
 
 -- ---- from position to position
 
-pub led-first : (e : Search) (from : ℕ) (slots : List (Option ℕ)) → AreEmpty slots → Arrives e e.start_state from → IsLed e from e.start_state from slots
+pub led-first : (e : Search) (from : ℕ) (slots : List (Option ℕ)) → AreEmpty slots → Arrives e e.start_state from
+    → IsLed e from e.start_state from slots
 led-first e from slots empty a = record {
   front = [];
   arrives = a;
@@ -414,7 +424,8 @@ pub start-arrives : (e : Search) (p from j : ℕ) → IsStartOf e p j from → A
 start-arrives e p from j x = record { run = x.run; is_match = (goes-to e p from j x).preferred.is_match }
 
 -- the match that is sought, with what its run records
-pub first-match : (e : Search) (p from j : ℕ) (x : IsStartOf e p j from) (captures : Captured) (found : Matched) → found.pattern ≡ p → found.span.start ≡ from
+pub first-match : (e : Search) (p from j : ℕ) (x : IsStartOf e p j from) (captures : Captured) (found : Matched) → found.pattern ≡ p
+    → found.span.start ≡ from
     → found.span.end ≡ j → captures.pattern ≡ Some p → AreRecords e x.run captures.offsets → IsFirstMatch e captures found
 first-match e p from j x captures found is_pattern is_start is_end is_set records = record {
   run = x.run;

@@ -87,7 +87,8 @@ none-earlier e at run f low a = ⊎_elim
     (cases_lt at (place run 0).1)
 
 -- where no state arrives over the byte, a match that begins there or before ends there or before
-pub none-crosses : (e : Search) (i : ℕ) (from : ℕ × ℕ) (run : List (ℕ × ℕ)) → ((t : ℕ) → ¬ (ArrivesOver e t i)) → IsMatchRun e from run → from.1 ≤ i
+pub none-crosses : (e : Search) (i : ℕ) (from : ℕ × ℕ) (run : List (ℕ × ℕ)) → ((t : ℕ) → ¬ (ArrivesOver e t i)) → IsMatchRun e from run
+    → from.1 ≤ i
     → (last_of run).1 ≤ i
 none-crosses e i from run none m low = go (length run - 1) (omega (arith, m.some))
   where

@@ -35,7 +35,8 @@ module _ (e : Search) (classes : List ℕ) where
   }
 
   -- the row that is next stands for the position before
-  stands : (new : List PassRow) (next i least : ℕ) (found : Option ℕ) (begins : Bool) (list : List ℕ) (other : Option ℕ) → e.start ≤ i → i ≤ e.end
+  stands : (new : List PassRow) (next i least : ℕ) (found : Option ℕ) (begins : Bool) (list : List ℕ) (other : Option ℕ) → e.start ≤ i
+      → i ≤ e.end
       → Alike classes (byte_before e.haystack i) other → IsPassRow classes new next true e.mode begins found other list
       → AreBefore e i list → IsBegun e i begins → IsLeastFrom e i (least_with begins i least)
       → StandsBackward e classes new next i (least_with (begins_in (slice_get new next)) i least)
@@ -56,7 +57,8 @@ module _ (e : Search) (classes : List ℕ) where
 
   module _ (width : ℕ) (unicode : Bool) (s : IsSearched e classes width unicode) where
     next-stands : (new : List PassRow) (next i least : ℕ) (row : PassRow) (found : Option ℕ) (begins : Bool) (list : List ℕ) (other : Option ℕ)
-        → e.start ≤ i → i ≤ e.end → AreBefore e (i + 1) row.list.items → IsLeastFrom e (i + 1) least → Alike classes (byte_before e.haystack i) other
+        → e.start ≤ i → i ≤ e.end → AreBefore e (i + 1) row.list.items → IsLeastFrom e (i + 1) least
+        → Alike classes (byte_before e.haystack i) other
         → IsPassRow classes new next true e.mode begins found other list → IsRetreated e i row.list.items begins list
         → StandsBackward e classes new next i (least_with (begins_in (slice_get new next)) i least)
     next-stands new next i least row found begins list other low high was least_was near r a =

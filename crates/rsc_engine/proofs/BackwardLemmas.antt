@@ -97,7 +97,8 @@ least-on e i least false b l = record {
   found = l.found;
 }
 
-module _ (e : Search) (i least : ℕ) (list : List ℕ) (begins : Bool) (next : List ℕ) (w : Lawful) (within : e.end ≤ length e.haystack) (low : e.start ≤ i)
+module _ (e : Search) (i least : ℕ) (list : List ℕ) (begins : Bool) (next : List ℕ) (w : Lawful) (within : e.end ≤ length e.haystack)
+    (low : e.start ≤ i)
     (high : i ≤ e.end) (was : AreBefore e (i + 1) list) (r : IsRetreated e i list begins next) where
   arrive : Lists (λ s. ArrivesOver e s i) list
   arrive = was i refl low
@@ -228,7 +229,8 @@ module _ (e : Search) (run : List (ℕ × ℕ)) (f : IsLeftmostFirst e run) (end
 -- ---- the part of a span up to a match's end
 
 -- it is the leftmost-first match there too
-pub first-down : (e : Search) (t : ℕ) (run : List (ℕ × ℕ)) → (last_of run).1 ≤ t → t ≤ e.end → IsLeftmostFirst e run → IsLeftmostFirst (search_up_to e t) run
+pub first-down : (e : Search) (t : ℕ) (run : List (ℕ × ℕ)) → (last_of run).1 ≤ t → t ≤ e.end → IsLeftmostFirst e run
+    → IsLeftmostFirst (search_up_to e t) run
 first-down e t run high within f = record {
   begins = record {
     start = f.begins.start;

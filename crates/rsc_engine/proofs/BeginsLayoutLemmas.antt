@@ -9,12 +9,12 @@ use Rattle.rsc_engine.specs.Patterns.{Pattern, Group, Goes, subject_of, IsMatchI
 use Rattle.rsc_engine.specs.declared.builder.part.Part.{Part}
 use Rattle.rsc_engine.specs.Parts.{pattern_of}
 use Rattle.rsc_engine.specs.EnclosesLayout.{Encloses}
-use Rattle.rsc_engine.specs.LinksLayout.{Aim, Ends, Realizes, Adds, Builds, IsAdded}
+use Rattle.rsc_engine.specs.LinksLayout.{Aim, StepsLead, Realizes, Adds, Builds, IsAdded}
 use Rattle.std.proofs.Math.Seq.{drop-length}
 use Rattle.rsc_captures.specs.Groups.{GroupLists, all_groups, slot_number}
 use Rattle.rsc_look.specs.declared.assertion.Look.{Look}
-use Rattle.rsc_engine.specs.NamesLayout.{asked_by, some_ask, Names, AreSoundIn}
-use Rattle.rsc_engine.proofs.NamesLayoutLemmas.{Names-alike, AreSound-pattern, AreSound-alike, AreSound-more, or_none}
+use Rattle.rsc_engine.specs.StatesLayout.{asked_by, some_ask, FitsAndAsks, AreSoundIn}
+use Rattle.rsc_engine.proofs.StatesLayoutLemmas.{FitsAndAsks-alike, AreSound-pattern, AreSound-alike, AreSound-more, or_none}
 use Rattle.rsc_engine.specs.BeginsLayout.{Begins, IsOfOne, IsOfSome}
 use Rattle.rsc_engine.specs.FirstsLayout.{OrdersOne, OrdersSome}
 use Rattle.rsc_engine.proofs.FirstsLayoutLemmas.{OrdersOne-is, OrdersSome-last, OrdersSome-more}
@@ -29,7 +29,7 @@ use Rattle.rsc_engine.proofs.WaysLayoutLemmas.{aim_at, way_of, steps_from, finis
 use Rattle.rsc_engine.proofs.WaysLemmas.{with-goes}
 use Rattle.rsc_engine.specs.StepsLayout.{last_place}
 use Rattle.rsc_engine.proofs.CompileLemmas.{Adds-one, Adds-both, Adds-is, grown}
-use Rattle.rsc_engine.specs.BeginsLayout.{IsWhole}
+use Rattle.rsc_engine.specs.BeginsLayout.{IsPatternStates}
 use Rattle.rsc_search.specs.Matches.{Matched}
 use Rattle.rsc_search.specs.Modes.{pattern_of_mode}
 use Rattle.rsc_engine.specs.Searches.{Search, Compiled, search_in}
@@ -44,14 +44,15 @@ same_pattern : (p q : ℕ) → Some (Accept p) ≡ Some (Accept q) → p ≡ q
 same_pattern p q e = cc
 
 -- a way to a match ends where its pattern is accepted
-at_accept : (states : List State) (a : Aim) (n s i q : ℕ) → slice_get states s ≡ Some (Accept q) → Ends states a n s i → (a.pattern ≡ q) × (i ≡ a.position)
+at_accept : (states : List State) (a : Aim) (n s i q : ℕ) → slice_get states s ≡ Some (Accept q) → StepsLead states a n s i → (a.pattern ≡ q)
+    × (i ≡ a.position)
 at_accept states a zero s i q is e = (same_pattern a.pattern q (sym e.0 ∙ is), e.1)
 at_accept states a (suc n) s i q is e =
     absurd (subst (λ (o : Option State). MatchOption o ⊥ (λ (x : State).
-    StepsTo x a.text.terminator a.text.word_chars a.text.haystack a.end i (e.1, e.2))) is e.3)
+    StepsTo x a.subject.terminator a.subject.word_chars a.subject.haystack a.end i (e.1, e.2))) is e.3)
 
 Begins-one : (states : List State) (slot_of : ℕ → ℕ) (number low high accept after body first : ℕ) (p : Pattern)
-    → IsWhole states number low high accept after body first → Realizes states body after p → ByWays states body after (numbered slot_of 1 p)
+    → IsPatternStates states number low high accept after body first → Realizes states body after p → ByWays states body after (numbered slot_of 1 p)
     → Begins states first (IsOfOne number p)
 Begins-one states slot_of number low high accept after body first p w r o = record {
   sound = sound;
@@ -68,19 +69,20 @@ Begins-one states slot_of number low high accept after body first p w r o = reco
     order : ByWays states first accept (Group (2 * number) (numbered slot_of 1 p))
     order = ByWays-group states first body after accept (2 * number) (numbered slot_of 1 p) w.starting w.ending o
 
-    sound : (a : Aim) (n i : ℕ) → Ends states a n first i → IsOfOne number p a i
+    sound : (a : Aim) (n i : ℕ) → StepsLead states a n first i → IsOfOne number p a i
     sound a n i e =
         let way = steps_from states a n first i e in
-        let g = order.through a.text a.end a.pattern (i, []) way.rest way.way in
-        let end = at_accept states (aim_at a.text a.end a.pattern (last_place (accept, g.to.0) g.rest)) (length g.rest) accept g.to.0 number w.accepting
-        (way_of states a.text a.end a.pattern (accept, g.to.0) g.rest g.way.within g.way.steps g.way.accepts) in
+        let g = order.through a.subject a.end a.pattern (i, []) way.rest way.way in
+        let end = at_accept states (aim_at a.subject a.end a.pattern (last_place (accept, g.to.0) g.rest)) (length g.rest) accept g.to.0 number w.accepting
+        (way_of states a.subject a.end a.pattern (accept, g.to.0) g.rest g.way.within g.way.steps g.way.accepts) in
         let there : g.to.0 ≡ a.position =
-        end.1 ∙ (ap (λ (q : ℕ × ℕ). q.1) (sym (finish_last states (accept, g.to.0) g.rest g.to.1)) ∙ (ap (λ (l : (ℕ × ℕ) × List (ℕ × ℕ)). l.0.1) g.ends
+        end.1 ∙ (ap (λ (q : ℕ × ℕ). q.1) (sym (finish_last states (accept, g.to.0) g.rest g.to.1))
+        ∙ (ap (λ (l : (ℕ × ℕ) × List (ℕ × ℕ)). l.0.1) g.ends
         ∙ (ap (λ (q : ℕ × ℕ). q.1) (finish_last states (first, i) way.rest []) ∙ way.ends))) in (
           end.0,
-          subst (λ (R : ℕ → ℕ → Type 0). R i a.position) (numbered-goes a.text slot_of 1 p)
-              (subst (λ (k : ℕ). Goes a.text (numbered slot_of 1 p) i k) there
-              (with-goes a.text (Group (2 * number) (numbered slot_of 1 p)) (i, []) g.to g.goes)),
+          subst (λ (R : ℕ → ℕ → Type 0). R i a.position) (numbered-goes a.subject slot_of 1 p)
+              (subst (λ (k : ℕ). Goes a.subject (numbered slot_of 1 p) i k) there
+              (with-goes a.subject (Group (2 * number) (numbered slot_of 1 p)) (i, []) g.to g.goes)),
         )
 
 -- a pattern, with its number, begins at a state; and if its number is one of these groups' patterns, its states name what is there
@@ -112,7 +114,7 @@ Adds-pattern groups old middle later last new accept number after start end body
       λ l. AreSound-pattern (2 * all_groups groups) (length groups) (asked_by p) (length old) (length later) (length last) (length new) accept number
           after start end body first end states (omega (arith, l, same)) starts ends sw ew a.last (omega (arith, b.last, one)) (omega (arith, two, one))
           x.longer c.last (grown last new (Capture start body) first c) y.0.0 y.0.1 y.1.1
-          (Names-alike (2 * all_groups groups) (asked_by (numbered (slot_number groups index) 1 p)) (asked_by p) (length later) (length last) states
+          (FitsAndAsks-alike (2 * all_groups groups) (asked_by (numbered (slot_number groups index) 1 p)) (asked_by p) (length later) (length last) states
           (numbered-asks (slot_number groups index) 1 p) y.1.2)
           z,
       subst (λ (q : ℕ). OrdersOne states (slot_number groups index) (length new) first q p) same
@@ -127,7 +129,7 @@ Adds-pattern groups old middle later last new accept number after start end body
     IsPart : List State → List State → ℕ → ℕ → List State → Type 0
     IsPart from to low high states =
         Realizes states low high (numbered (slot_number groups index) 1 p) × Encloses end (length from) (length to) low high states
-        × Names (2 * all_groups groups) (asked_by (numbered (slot_number groups index) 1 p)) (length from) (length to) states
+        × FitsAndAsks (2 * all_groups groups) (asked_by (numbered (slot_number groups index) 1 p)) (length from) (length to) states
         × ByWays states low high (numbered (slot_number groups index) 1 p)
         × TakesCourse (length from) (length to) low high (numbered (slot_number groups index) 1 p) states
 
@@ -140,7 +142,7 @@ Adds-pattern groups old middle later last new accept number after start end body
         y.1.0
 
     whole : (states : List State) → Three states → slice_get states first ≡ Some (Capture start body)
-        → IsWhole states number (length later) (length last) accept after body first
+        → IsPatternStates states number (length later) (length last) accept after body first
     whole states y z = record {
       accepting = y.0.0;
       ending = y.0.1 ∙ ap (λ (q : ℕ). Some (Capture q accept)) ends;
@@ -156,7 +158,8 @@ Adds-pattern groups old middle later last new accept number after start end body
 
 -- ---- several patterns
 
-Begins-is : (states : List State) (first : ℕ) (P Q : Aim → ℕ → Type 0) → ((a : Aim) (i : ℕ) → P a i → Q a i) → ((a : Aim) (i : ℕ) → Q a i → P a i)
+Begins-is : (states : List State) (first : ℕ) (P Q : Aim → ℕ → Type 0) → ((a : Aim) (i : ℕ) → P a i → Q a i)
+    → ((a : Aim) (i : ℕ) → Q a i → P a i)
     → Begins states first P → Begins states first Q
 Begins-is states first P Q to back b = record {
   sound = λ a n i e. to a i (b.sound a n i e);
@@ -165,16 +168,16 @@ Begins-is states first P Q to back b = record {
 }
 
 -- where a fork leads
-fork_to : (states : List State) (a : Aim) (n s i one other : ℕ) → slice_get states s ≡ Some (Fork one other) → Ends states a n s i
-    → (m : ℕ) × (Ends states a m one i ⊎ Ends states a m other i)
+fork_to : (states : List State) (a : Aim) (n s i one other : ℕ) → slice_get states s ≡ Some (Fork one other) → StepsLead states a n s i
+    → (m : ℕ) × (StepsLead states a m one i ⊎ StepsLead states a m other i)
 fork_to states a zero s i one other is e = absurd (true≢false (sym (ap may_accept e.0) ∙ ap may_accept is))
 fork_to states a (suc n) s i one other is e =
-    let step = step_of states a.text a.end s (s, i) (e.1, e.2) (Fork one other) refl is e.3 in
-    let here = subst (λ (k : ℕ). Ends states a n e.1 k) step.1 e.4 in (
+    let step = step_of states a.subject a.end s (s, i) (e.1, e.2) (Fork one other) refl is e.3 in
+    let here = subst (λ (k : ℕ). StepsLead states a n e.1 k) step.1 e.4 in (
       n,
       ⊎_elim
-          (λ (h : e.1 ≡ one). inl (subst (λ (t : ℕ). Ends states a n t i) h here))
-          (λ (h : e.1 ≡ other). inr (subst (λ (t : ℕ). Ends states a n t i) h here))
+          (λ (h : e.1 ≡ one). inl (subst (λ (t : ℕ). StepsLead states a n t i) h here))
+          (λ (h : e.1 ≡ other). inr (subst (λ (t : ℕ). StepsLead states a n t i) h here))
           step.0,
     )
 
@@ -184,7 +187,7 @@ Begins-either : (states : List State) (s one other : ℕ) (P Q : Aim → ℕ →
 Begins-either states s one other P Q is b c apart = record {
   sound = λ a n i e.
       let w = fork_to states a n s i one other is e in
-      ⊎_elim (λ (x : Ends states a w.0 one i). inl (b.sound a w.0 i x)) (λ (x : Ends states a w.0 other i). inr (c.sound a w.0 i x)) w.1;
+      ⊎_elim (λ (x : StepsLead states a w.0 one i). inl (b.sound a w.0 i x)) (λ (x : StepsLead states a w.0 other i). inr (c.sound a w.0 i x)) w.1;
   complete = λ a i h within. ⊎_elim
       (λ (x : P a i). choice_first states a s i one other (inl is) (b.complete a i x within))
       (λ (x : Q a i). choice_next states a s i one other (inl is) (c.complete a i x within))
@@ -196,7 +199,8 @@ same_some : (p q : Pattern) → Some p ≡ Some q → p ≡ q
 same_some p q e = cc
 
 -- the last of the patterns
-last-is : (patterns : List Pattern) (n : ℕ) (p : Pattern) → slice_get patterns n ≡ Some p → (a : Aim) (i : ℕ) → IsOfOne n p a i → IsOfSome n patterns a i
+last-is : (patterns : List Pattern) (n : ℕ) (p : Pattern) → slice_get patterns n ≡ Some p → (a : Aim) (i : ℕ) → IsOfOne n p a i
+    → IsOfSome n patterns a i
 last-is patterns n p at a i s = (omega (arith, s.0), p, (subst (λ (m : ℕ). slice_get patterns m ≡ Some p) (sym s.0) at), s.1)
 
 last-back : (patterns : List Pattern) (n : ℕ) (p : Pattern) → slice_get patterns n ≡ Some p → n + 1 ≡ length patterns → (a : Aim) (i : ℕ)
@@ -205,7 +209,7 @@ last-back patterns n p at last a i s =
     let there = slice_get_within patterns a.pattern s.1 s.2 in
     let same : a.pattern ≡ n = omega (arith, there, last, s.0) in
     let its : s.1 ≡ p = same_some s.1 p (sym s.2 ∙ (subst (λ (m : ℕ). slice_get patterns m ≡ Some p) (sym same) at)) in
-    (same, subst (λ (q : Pattern). Goes a.text q i a.position) its s.3)
+    (same, subst (λ (q : Pattern). Goes a.subject q i a.position) its s.3)
 
 -- the patterns from the number n on begin at a state; and if all are these groups' patterns, their states name what is there
 abbrev SomeBegin : GroupLists → List State → List State → ℕ → ℕ → List Pattern → List State → Type 0
@@ -256,7 +260,7 @@ more-back : (patterns : List Pattern) (n : ℕ) (p : Pattern) → slice_get patt
 more-back patterns n p at a i s = ⊎_elim
     (λ (same : a.pattern ≡ n).
     let its : s.1 ≡ p = same_some s.1 p (sym s.2 ∙ (subst (λ (m : ℕ). slice_get patterns m ≡ Some p) (sym same) at)) in
-    inl (same, subst (λ (q : Pattern). Goes a.text q i a.position) its s.3))
+    inl (same, subst (λ (q : Pattern). Goes a.subject q i a.position) its s.3))
     (λ (apart : (a.pattern ≡ n) → ⊥). inr (above a.pattern s.0 apart, s.1, s.2, s.3))
     (cases_eq a.pattern n)
   where
@@ -307,13 +311,13 @@ its_pattern parts k part l is =
 
 -- the match that is looked for, in a search
 abbrev aim_of : Search → Matched → Aim
-aim_of e found = record { text = subject_of e; end = e.end; pattern = found.pattern; position = found.span.end }
+aim_of e found = record { subject = subject_of e; end = e.end; pattern = found.pattern; position = found.span.end }
 
 -- ---- from a run to a way
 
 -- the places of a run from k on are a way to its match, if n steps are left
 way_from : (e : Search) (found : Matched) (run : List (ℕ × ℕ)) → IsRun e.states e.terminator e.word_chars e.haystack e.start e.end run
-    → IsMatchOf e run found → (n k : ℕ) → k + n + 1 ≡ length run → Ends e.states (aim_of e found) n (place run k).0 (place run k).1
+    → IsMatchOf e run found → (n k : ℕ) → k + n + 1 ≡ length run → StepsLead e.states (aim_of e found) n (place run k).0 (place run k).1
 way_from e found run r m zero k last =
     let same : length run - 1 ≡ k = omega (arith, last) in
     let pattern = rw same at m.pattern in
@@ -353,7 +357,7 @@ before e found s i t k low high step r = record {
     back : place ((s, i) ∷ r.run) (length ((s, i) ∷ r.run) - 1) ≡ place r.run (length r.run - 1)
     back = let one : length ((s, i) ∷ r.run) - 1 ≡ suc (length r.run - 1) = omega (arith, r.some) in ap (λ (n : ℕ). place ((s, i) ∷ r.run) n) one
 
-run_from : (e : Search) (found : Matched) (n s i : ℕ) → e.start ≤ i → Ends e.states (aim_of e found) n s i → Run e found s i
+run_from : (e : Search) (found : Matched) (n s i : ℕ) → e.start ≤ i → StepsLead e.states (aim_of e found) n s i → Run e found s i
 run_from e found zero s i low x = record {
   run = (s, i) ∷ [];
   is_run = record {
@@ -382,8 +386,8 @@ has_match : (e : Search) (patterns : List Pattern) (found : Matched) → Begins 
 has_match e patterns found b h =
     let r = h.is_match in
     let way = way_from e found h.run r.is_run h.makes (length h.run - 1) 0 (omega (arith, r.some)) in
-    let here : Ends e.states (aim_of e found) (length h.run - 1) e.start_state found.span.start =
-    subst (λ (p : ℕ × ℕ). Ends e.states (aim_of e found) (length h.run - 1) p.0 p.1) r.begins way in
+    let here : StepsLead e.states (aim_of e found) (length h.run - 1) e.start_state found.span.start =
+    subst (λ (p : ℕ × ℕ). StepsLead e.states (aim_of e found) (length h.run - 1) p.0 p.1) r.begins way in
     let s = b.sound (aim_of e found) (length h.run - 1) found.span.start here in
     record {
       pattern = s.1;

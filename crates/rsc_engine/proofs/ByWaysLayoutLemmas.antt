@@ -6,7 +6,7 @@ use Rattle.rsc_nfa.specs.declared.state.State.TheVariants.{ByteRange, Assert, Fo
 use Rattle.rsc_nfa.specs.Steps.{is_between}
 use Rattle.rsc_engine.specs.Patterns.{Pattern, Empty, Never, Class, Assertion, Then, Either, Repeat, Group, Subject}
 use Rattle.rsc_engine.specs.Ways.{Point, with_record}
-use Rattle.rsc_engine.specs.WaysLayout.{IsWay, finish}
+use Rattle.rsc_engine.specs.WaysLayout.{AreStepsTo, finish}
 use Rattle.rsc_engine.specs.ByWaysLayout.{GoesOnWith, ByWays}
 use Rattle.rsc_engine.specs.LinksLayout.{IsChoice, choice_of, optional}
 use Rattle.rsc_engine.proofs.FirstWaysLemmas.{HasWays, plus-ways}
@@ -21,7 +21,8 @@ ByWays-empty states next = record {
   through = λ x end m from rest w. record { to = from; rest = rest; goes = refl; way = w; ends = refl; fewer = omega arith };
 }
 
-pub ByWays-assert : (states : List State) (s next : ℕ) (look : Look) → slice_get states s ≡ Some (Assert look next) → ByWays states s next (Assertion look)
+pub ByWays-assert : (states : List State) (s next : ℕ) (look : Look) → slice_get states s ≡ Some (Assert look next)
+    → ByWays states s next (Assertion look)
 ByWays-assert states s next look is = record {
   through = λ x end m from rest w.
       let o = step_on states x end m s from (Assert look next) rest is refl w in
@@ -30,8 +31,9 @@ ByWays-assert states s next look is = record {
 }
 
 -- from a fork to itself no way leads to a match
-never_ends : (states : List State) (x : Subject) (end m s : ℕ) (p : ℕ × ℕ) (rest : List (ℕ × ℕ)) → p.0 ≡ s → slice_get states s ≡ Some (Fork s s)
-    → IsWay states x end m p rest → ⊥
+never_ends : (states : List State) (x : Subject) (end m s : ℕ) (p : ℕ × ℕ) (rest : List (ℕ × ℕ)) → p.0 ≡ s
+    → slice_get states s ≡ Some (Fork s s)
+    → AreStepsTo states x end m p rest → ⊥
 never_ends states x end m s p [] same is w =
     true≢false (sym (ap may_accept w.accepts) ∙ (ap (λ (t : ℕ). may_accept (slice_get states t)) same ∙ ap may_accept is))
 never_ends states x end m s p (q ∷ rest) same is w =
@@ -44,7 +46,8 @@ ByWays-never states s next is = record {
   through = λ x end m from rest w. absurd (never_ends states x end m s (s, from.0) rest refl is w);
 }
 
-pub ByWays-range : (states : List State) (s a b next : ℕ) → slice_get states s ≡ Some (ByteRange a b next) → ByWays states s next (Class ((a, b) ∷ []))
+pub ByWays-range : (states : List State) (s a b next : ℕ) → slice_get states s ≡ Some (ByteRange a b next)
+    → ByWays states s next (Class ((a, b) ∷ []))
 ByWays-range states s a b next is = record {
   through = λ x end m from rest w.
       let o = step_on states x end m s from (ByteRange a b next) rest is refl w in
@@ -84,16 +87,17 @@ pub ByWays-group : (states : List State) (first body after next slot : ℕ) (p :
 ByWays-group states first body after next slot p begins closes op = record {
   through = λ x end m from rest w.
       let o = step_on states x end m first from (Capture slot body) rest begins refl w in
-      let at_body : IsWay states x end m (body, from.0) o.rest =
-      subst (λ (k : ℕ). IsWay states x end m (body, k) o.rest) o.step.1 (subst (λ (s : ℕ). IsWay states x end m (s, o.position) o.rest) o.step.0 o.way) in
+      let at_body : AreStepsTo states x end m (body, from.0) o.rest =
+      subst (λ (k : ℕ). AreStepsTo states x end m (body, k) o.rest) o.step.1 (subst (λ (s : ℕ). AreStepsTo states x end m
+      (s, o.position) o.rest) o.step.0 o.way) in
       let g = op.through x end m (with_record slot from) o.rest at_body in
       let c = step_on states x end m after g.to (Capture (slot + 1) next) g.rest closes refl g.way in
       record {
         to = with_record (slot + 1) g.to;
         rest = c.rest;
         goes = (g.to, g.goes, refl);
-        way = subst (λ (k : ℕ). IsWay states x end m (next, k) c.rest) c.step.1
-            (subst (λ (s : ℕ). IsWay states x end m (s, c.position) c.rest) c.step.0 c.way);
+        way = subst (λ (k : ℕ). AreStepsTo states x end m (next, k) c.rest) c.step.1
+            (subst (λ (s : ℕ). AreStepsTo states x end m (s, c.position) c.rest) c.step.0 c.way);
         ends = ap (λ (s : ℕ). finish states (s, g.to.0) c.rest ((slot + 1, g.to.0) ∷ g.to.1)) (sym c.step.0)
             ∙ (ap (λ (k : ℕ). finish states (c.to, k) c.rest ((slot + 1, g.to.0) ∷ g.to.1)) (sym c.step.1)
             ∙ (c.ends
@@ -126,7 +130,7 @@ ByWays-choice states s first next false p is o = ByWays-either states s next fir
 
 -- a choice leads to the part or to what comes next
 choice_way : (states : List State) (x : Subject) (end m s first next : ℕ) (from : Point) (rest : List (ℕ × ℕ)) → IsChoice states s first next
-    → IsWay states x end m (s, from.0) rest
+    → AreStepsTo states x end m (s, from.0) rest
     → Rest states x end m first from (length rest) (finish states (s, from.0) rest from.1)
     ⊎ Rest states x end m next from (length rest) (finish states (s, from.0) rest from.1)
 choice_way states x end m s first next from rest c w = ⊎_elim
@@ -138,7 +142,7 @@ choice_way states x end m s first next from rest c w = ⊎_elim
     c
 
 around_with : (states : List State) (x : Subject) (end m s first next fuel : ℕ) (from : Point) (greedy : Bool) (p : Pattern) (rest : List (ℕ × ℕ))
-    → IsChoice states s first next → ByWays states first s p → length rest < fuel → IsWay states x end m (s, from.0) rest
+    → IsChoice states s first next → ByWays states first s p → length rest < fuel → AreStepsTo states x end m (s, from.0) rest
     → GoesOnWith states x end m next (Repeat 0 None greedy p) from (length rest) (finish states (s, from.0) rest from.1)
 around_with states x end m s first next zero from greedy p rest c o l w = absurd (omega (arith, l))
 around_with states x end m s first next (suc fuel) from greedy p rest c o l w = ⊎_elim

@@ -10,8 +10,8 @@ use Rattle.rsc_engine.specs.EnclosesLayout.{IsOnWay, StaysOnWay, Encloses}
 use Rattle.rsc_nfa.specs.Classes.{asserts}
 use Rattle.rsc_nfa.specs.Steps.{is_between}
 use Rattle.rsc_engine.specs.Asks.{asks}
-use Rattle.rsc_engine.specs.NamesLayout.{Fits, asked_by, Names}
-use Rattle.rsc_engine.proofs.NamesLayoutLemmas.{Names-none, Names-joined, Names-one, Names-above, Names-alike, nothing, either_back, between-same}
+use Rattle.rsc_engine.specs.StatesLayout.{Fits, asked_by, FitsAndAsks}
+use Rattle.rsc_engine.proofs.StatesLayoutLemmas.{FitsAndAsks-none, FitsAndAsks-joined, FitsAndAsks-one, FitsAndAsks-above, FitsAndAsks-alike, nothing, either_back, between-same}
 use Rattle.rsc_captures.specs.Groups.{GroupLists, slot_number}
 use Rattle.std.proofs.lemmas.Bool.Decides.{nat_tests}
 use Rattle.rsc_engine.specs.GroupNumbers.{count_groups, numbered}
@@ -104,20 +104,20 @@ Adds-written old middle new state written id P a p = record {
 -- the states from low to high are a part's
 abbrev pub IsPart : ℕ × ℕ → ℕ → ℕ → ℕ → ℕ → Pattern → List State → Type 0
 IsPart slots low high first next p all =
-    Realizes all first next p × Encloses slots.0 low high first next all × Names slots.1 (asked_by p) low high all × ByWays all first next p
+    Realizes all first next p × Encloses slots.0 low high first next all × FitsAndAsks slots.1 (asked_by p) low high all × ByWays all first next p
     × TakesCourse low high first next p all
 
 -- all but the order and the course
 abbrev IsShape : ℕ × ℕ → ℕ → ℕ → ℕ → ℕ → Pattern → List State → Type 0
 IsShape slots low high first next p all =
-    Realizes all first next p × Encloses slots.0 low high first next all × Names slots.1 (asked_by p) low high all
+    Realizes all first next p × Encloses slots.0 low high first next all × FitsAndAsks slots.1 (asked_by p) low high all
 
 shape-then : (slots : ℕ × ℕ) (low middle high first between next : ℕ) (p q : Pattern) (all : List State) → low ≤ middle → middle ≤ high
     → IsShape slots low middle between next q all → IsShape slots middle high first between p all → IsShape slots low high first next (Then p q) all
 shape-then slots low middle high first between next p q all l h a b = (
   Realizes-then all first between next p q a.0 b.0,
   Encloses-then slots.0 low middle high first between next all l h a.1 b.1,
-  Names-joined slots.1 (asked_by (Then p q)) (asked_by q) (asked_by p) low middle high all
+  FitsAndAsks-joined slots.1 (asked_by (Then p q)) (asked_by q) (asked_by p) low middle high all
       (either_back (asked_by q) (asked_by p)) l h a.2 b.2,
 )
 
@@ -144,7 +144,7 @@ Builds-is slots old new first next p q back ways same courses x =
     (λ all r. (
       Realizes-is all first next p q back r.0,
       r.1,
-      Names-alike slots.1 (asked_by p) (asked_by q) (length old) (length new) all same r.2,
+      FitsAndAsks-alike slots.1 (asked_by p) (asked_by q) (length old) (length new) all same r.2,
       ByWays-is all first next p q ways r.3,
       Takes-is (length old) (length new) first next p q all courses r.4,
     )) x
@@ -157,7 +157,7 @@ Builds-empty slots states next = record {
   holds = λ all is. (
     Realizes-empty all next,
     record { begins = inr refl; stays = λ k state l h. absurd (omega (arith, l, h)) },
-    Names-none slots.1 (length states) (length states) all (omega arith),
+    FitsAndAsks-none slots.1 (length states) (length states) all (omega arith),
     ByWays-empty all next,
     Takes-empty (length states) (length states) next all,
   );
@@ -183,7 +183,7 @@ Builds-state slots old new state id next p a stays fits has realizes =
     (λ all is. (
       (realizes all is).0,
       Encloses-one slots.0 (length old) (length new) id next all state a.last (grown old new state id a) is stays,
-      Names-one slots.1 (asked_by p) (length old) (length new) id all state a.last (grown old new state id a) is fits has,
+      FitsAndAsks-one slots.1 (asked_by p) (length old) (length new) id all state a.last (grown old new state id a) is fits has,
       (realizes all is).1,
       (realizes all is).2,
     ))
@@ -211,12 +211,13 @@ Builds-assert slots old new look id next a =
     Builds-state slots old new (Assert look next) id next (Assertion look) a (inr refl) tt (λ f. refl)
     (λ all is. (Realizes-assert all id next look is, ByWays-assert all id next look is, Takes-assert (length old) (length new) id next look all is))
 
-shape-capture : (slots : ℕ × ℕ) (low high c id next : ℕ) (all : List State) → id ≡ low → high ≡ low + 1 → slice_get all id ≡ Some (Capture c next)
+shape-capture : (slots : ℕ × ℕ) (low high c id next : ℕ) (all : List State) → id ≡ low → high ≡ low + 1
+    → slice_get all id ≡ Some (Capture c next)
     → slots.0 < c → c < slots.1 → IsShape slots low high id next Empty all
 shape-capture slots low high c id next all same one is l m = (
   Realizes-capture all id c next is,
   Encloses-one slots.0 low high id next all (Capture c next) same one is (l, inr refl),
-  Names-one slots.1 nothing low high id all (Capture c next) same one is m (λ f. refl),
+  FitsAndAsks-one slots.1 nothing low high id all (Capture c next) same one is m (λ f. refl),
 )
 
 -- ---- states after parts
@@ -233,9 +234,9 @@ Builds-either slots old middle last new one other id next p q x y a =
       Realizes-either all id one other next p q is b.1.0 b.0.0,
       Encloses-either slots.0 (length old) (length middle) (length last) (length new) one other id next all x.longer y.longer a.last
           (grown last new (Fork one other) id a) b.0.1 b.1.1 is,
-      Names-above slots.1 (asked_by (Either p q)) (length old) (length last) (length new) id one other all
+      FitsAndAsks-above slots.1 (asked_by (Either p q)) (length old) (length last) (length new) id one other all
           (omega (arith, x.longer, y.longer)) a.last (grown last new (Fork one other) id a) is
-          (Names-joined slots.1 (asked_by (Either p q)) (asked_by q) (asked_by p) (length old) (length middle) (length last) all
+          (FitsAndAsks-joined slots.1 (asked_by (Either p q)) (asked_by q) (asked_by p) (length old) (length middle) (length last) all
           (either_back (asked_by q) (asked_by p)) x.longer y.longer b.0.2 b.1.2),
       ByWays-either all id one other next p q is b.1.3 b.0.3,
       Takes-either (length old) (length middle) (length last) (length new) one other id next p q all x.longer y.longer a.last
@@ -255,7 +256,8 @@ Builds-class slots old middle last new x y one other id next rest some r a b =
     (Builds-either slots old middle last new one other id next (Class ((x, y) ∷ [])) (Class rest) r a b)
 
 -- a byte before others
-pub Builds-byte : (slots : ℕ × ℕ) (old middle new : List State) (b first id next : ℕ) (rest : List ℕ) → Builds slots old middle first next (Literal rest)
+pub Builds-byte : (slots : ℕ × ℕ) (old middle new : List State) (b first id next : ℕ) (rest : List ℕ)
+    → Builds slots old middle first next (Literal rest)
     → IsAdded middle new (ByteRange b b first) id → Builds slots old new id next (Literal (b ∷ rest))
 Builds-byte slots old middle new b first id next rest r a =
     Builds-is slots old new id next (Then (Class ((b, b) ∷ [])) (Literal rest)) (Literal (b ∷ rest)) (literal-back b rest)
@@ -281,7 +283,7 @@ Builds-group slots old middle last new state start end body after id next p l se
       Realizes-is all id next p (Group start p) (λ t i j g. g)
           (Realizes-between all id body after next p (Realizes-capture all after end next y.0) y.1.0 (Realizes-capture all id start body is)),
       s.1,
-      Names-alike slots.1 (asked_by (Then Empty (Then p Empty))) (asked_by (Group start p)) (length old) (length new) all (between-same p) s.2,
+      FitsAndAsks-alike slots.1 (asked_by (Then Empty (Then p Empty))) (asked_by (Group start p)) (length old) (length new) all (between-same p) s.2,
       ByWays-group all id body after next start p is (y.0 ∙ ap (λ (c : ℕ). Some (Capture c next)) second) y.1.3,
       Takes-wider (length middle) (length last) (length old) (length new) id next (Group start p) all (omega (arith, one)) (omega (arith, two))
           (Takes-group (length middle) (length last) id body after next start p all is (y.0 ∙ ap (λ (c : ℕ). Some (Capture c next)) second) y.1.4),
@@ -310,7 +312,8 @@ pub drop-one : {A : Type 0} (xs : List A) (d : A) → 0 < length xs → drop (le
 drop-one {A = A} xs d some = drop-last xs (length xs) d some (omega arith) ∙ ap (λ (ys : List A). get_or xs (length xs - 1) d ∷ ys) (drop-length xs)
 
 -- a class without a range has no byte
-pub Builds-none : (slots : ℕ × ℕ) (old new : List State) (first next : ℕ) (ranges : List (ℕ × ℕ)) → length ranges ≡ 0 → Builds slots old new first next Never
+pub Builds-none : (slots : ℕ × ℕ) (old new : List State) (first next : ℕ) (ranges : List (ℕ × ℕ)) → length ranges ≡ 0
+    → Builds slots old new first next Never
     → Builds slots old new first next (Class ranges)
 Builds-none slots old new first next [] none x =
     Builds-is slots old new first next Never (Class []) (λ t i j g. absurd (true≢false (sym g.0)))
@@ -326,7 +329,7 @@ Builds-reversed slots old new first next x y less b =
       Realizes-is all first next Never (Class ((x, y) ∷ [])) (λ t i j g. absurd
           (none-between x y (slice_get t.haystack i) less (one_of_one (is_between x y (slice_get t.haystack i)) g.0))) r.0,
       r.1,
-      Names-alike slots.1 (asked_by Never) (asked_by (Class ((x, y) ∷ []))) (length old) (length new) all (λ f. refl) r.2,
+      FitsAndAsks-alike slots.1 (asked_by Never) (asked_by (Class ((x, y) ∷ []))) (length old) (length new) all (λ f. refl) r.2,
       ByWays-is all first next Never (Class ((x, y) ∷ [])) (λ t m n f. absurd f) r.3,
       Takes-reversed (length old) (length new) first next x y all less r.4,
     )) b
@@ -347,7 +350,8 @@ BuildsPart-then slot_of slots left mid now old middle new first between next p q
   omega (arith, x.2, y.2),
 )
 
-pub BuildsPart-either : (slot_of : ℕ → ℕ) (slots : ℕ × ℕ) (left mid now : ℕ) (old middle last new : List State) (one other id next : ℕ) (p q : Pattern)
+pub BuildsPart-either : (slot_of : ℕ → ℕ)
+    (slots : ℕ × ℕ) (left mid now : ℕ) (old middle last new : List State) (one other id next : ℕ) (p q : Pattern)
     → BuildsPart slot_of slots left mid old middle other next q → BuildsPart slot_of slots mid now middle last one next p
     → IsAdded last new (Fork one other) id → BuildsPart slot_of slots left now old new id next (Either p q)
 BuildsPart-either slot_of slots left mid now old middle last new one other id next p q x y a = (
@@ -358,7 +362,8 @@ BuildsPart-either slot_of slots left mid now old middle last new one other id ne
 )
 
 -- a part before others
-pub BuildsPart-one_of : (slot_of : ℕ → ℕ) (slots : ℕ × ℕ) (left mid now : ℕ) (old middle last new : List State) (one other id next : ℕ) (p : Pattern)
+pub BuildsPart-one_of : (slot_of : ℕ → ℕ)
+    (slots : ℕ × ℕ) (left mid now : ℕ) (old middle last new : List State) (one other id next : ℕ) (p : Pattern)
     (rest : List Pattern) → 0 < length rest
     → BuildsPart slot_of slots left mid old middle other next (one_of rest) → BuildsPart slot_of slots mid now middle last one next p
     → IsAdded last new (Fork one other) id → BuildsPart slot_of slots left now old new id next (one_of (p ∷ rest))
@@ -367,7 +372,8 @@ BuildsPart-one_of slot_of slots left mid now old middle last new one other id ne
     BuildsPart-either slot_of slots left mid now old middle last new one other id next p (one_of (q ∷ rest)) x y a
 
 -- without a part there is no match
-pub BuildsPart-nothing : (slot_of : ℕ → ℕ) (slots : ℕ × ℕ) (left : ℕ) (old new : List State) (first next : ℕ) (parts : List Pattern) → length parts ≡ 0
+pub BuildsPart-nothing : (slot_of : ℕ → ℕ) (slots : ℕ × ℕ) (left : ℕ) (old new : List State) (first next : ℕ) (parts : List Pattern)
+    → length parts ≡ 0
     → Builds slots old new first next Never → length new ≡ length old + 1 → BuildsPart slot_of slots left left old new first next (one_of parts)
 BuildsPart-nothing slot_of slots left old new first next [] none x one = (omega arith, x, one)
 BuildsPart-nothing slot_of slots left old new first next (p ∷ rest) none x one = absurd (omega (arith, none))

@@ -7,7 +7,7 @@ use Rattle.rsc_nfa.specs.declared.state.State.TheVariants.{ByteRange, Assert, Fo
 use Rattle.rsc_engine.specs.Patterns.{Subject}
 use Rattle.rsc_engine.specs.LinksLayout.{choice_of}
 use Rattle.rsc_engine.proofs.LinksLayoutLemmas.{may_accept}
-use Rattle.rsc_engine.specs.Courses.{Course, Skip, Dead, Byte, Here, After, Choose, Turn, Again, Within, Stand, further, chosen, noted, IsNew, Turns, SomeTurns, GoesNew, Reaches}
+use Rattle.rsc_engine.specs.Courses.{Course, Skip, Dead, Byte, Here, After, Choose, Turn, Again, Within, Stand, further, chosen, noted, IsUnmade, Turns, SomeTurns, GoesOnce, Reaches}
 use Rattle.rsc_engine.specs.PathsLayout.{by_state, PathLeads, IsPath, HasPath, Least, arrive}
 use Rattle.rsc_engine.specs.CoursesLayout.{Through, FirstThrough, Follows}
 use Rattle.rsc_engine.proofs.CoursesLemmas.{IsMoreAt, new-alike}
@@ -93,7 +93,7 @@ record Rest (states : List State) (x : Subject) (end m f g : ℕ) (s : Stand) (m
 
 either_way : (states : List State) (x : Subject) (end m f a b : ℕ) (s : Stand) (rest : List ℕ) → slice_get states f ≡ Some (Fork a b)
     → IsPath states x end m f s rest
-    → IsNew f s × (Rest states x end m f a s (length rest) (arrive states f s rest) ⊎ Rest states x end m f b s (length rest) (arrive states f s rest))
+    → IsUnmade f s × (Rest states x end m f a s (length rest) (arrive states f s rest) ⊎ Rest states x end m f b s (length rest) (arrive states f s rest))
 either_way states x end m f a b s rest is w = (
   o.leads.0,
   ⊎_elim (λ (e : o.to ≡ a). inl (there a e)) (λ (e : o.to ≡ b). inr (there b e)) o.leads.1,
@@ -119,7 +119,7 @@ pub record Way (states : List State) (x : Subject) (end m f g : ℕ) (s : Stand)
 
 pub from_fork : (states : List State) (x : Subject) (end m f a b : ℕ) (s : Stand) (rest : List ℕ) → slice_get states f ≡ Some (Fork a b)
     → Least states x end m f s rest
-    → IsNew f s × (Way states x end m f a s (length rest) (arrive states f s rest)
+    → IsUnmade f s × (Way states x end m f a s (length rest) (arrive states f s rest)
     ⊎ ((HasPath states x end m a (chosen f s) → ⊥) × Way states x end m f b s (length rest) (arrive states f s rest)))
 from_fork states x end m f a b s [] is l = absurd (true≢false (sym (ap may_accept l.path.0) ∙ ap may_accept is))
 from_fork states x end m f a b s (g ∷ rest) is l = (
@@ -133,7 +133,7 @@ from_fork states x end m f a b s (g ∷ rest) is l = (
       (cases_eq g a),
 )
   where
-    leads : IsNew f s × ((g ≡ a) ⊎ (g ≡ b))
+    leads : IsUnmade f s × ((g ≡ a) ⊎ (g ≡ b))
     leads = subst (λ (o : Option State). PathLeads o x end f s g) is l.path.0
 
     there : (h : ℕ) → g ≡ h → Way states x end m f h s (suc (length rest)) (arrive states g (by_state (slice_get states f) f s) rest)
@@ -151,7 +151,8 @@ from_fork states x end m f a b s (g ∷ rest) is l = (
 -- a choice leads to the part or to what comes next
 choice_way : (states : List State) (x : Subject) (end m f first next : ℕ) (greedy : Bool) (s : Stand) (rest : List ℕ)
     → slice_get states f ≡ Some (choice_of greedy first next) → IsPath states x end m f s rest
-    → IsNew f s × (Rest states x end m f first s (length rest) (arrive states f s rest) ⊎ Rest states x end m f next s (length rest) (arrive states f s rest))
+    → IsUnmade f s
+    × (Rest states x end m f first s (length rest) (arrive states f s rest) ⊎ Rest states x end m f next s (length rest) (arrive states f s rest))
 choice_way states x end m f first next true s rest is w = either_way states x end m f first next s rest is w
 choice_way states x end m f first next false s rest is w =
     let e = either_way states x end m f next first s rest is w in (
@@ -162,7 +163,7 @@ choice_way states x end m f first next false s rest is w =
     )
 
 choice_back : (states : List State) (x : Subject) (end m f first next : ℕ) (greedy : Bool) (s : Stand) (g : ℕ)
-    → slice_get states f ≡ Some (choice_of greedy first next) → IsNew f s → (g ≡ first) ⊎ (g ≡ next) → HasPath states x end m g (chosen f s)
+    → slice_get states f ≡ Some (choice_of greedy first next) → IsUnmade f s → (g ≡ first) ⊎ (g ≡ next) → HasPath states x end m g (chosen f s)
     → HasPath states x end m f s
 choice_back states x end m f first next true s g is new which w =
     (g ∷ w.0, backward states x end m f (Fork first next) s g w.0 is (new, which) w.1)
@@ -243,7 +244,7 @@ never_ends : (states : List State) (x : Subject) (end m f : ℕ) (s : Stand) (re
     → IsPath states x end m f s rest → ⊥
 never_ends states x end m f s [] is w = true≢false (sym (ap may_accept w.0) ∙ ap may_accept is)
 never_ends states x end m f s (g ∷ rest) is w =
-    let leads : IsNew f s × ((g ≡ f) ⊎ (g ≡ f)) = subst (λ (o : Option State). PathLeads o x end f s g) is w.0 in
+    let leads : IsUnmade f s × ((g ≡ f) ⊎ (g ≡ f)) = subst (λ (o : Option State). PathLeads o x end f s g) is w.0 in
     let same : g ≡ f = ⊎_elim (λ (e : g ≡ f). e) (λ (e : g ≡ f). e) leads.1 in
     never_ends states x end m f (by_state (slice_get states f) f s) rest is
     (subst (λ (k : ℕ). IsPath states x end m k (by_state (slice_get states f) f s) rest) same w.1)
@@ -266,11 +267,11 @@ Follows-reversed states f next a b less o = record {
 -- ---- courses made of courses
 
 onto : (states : List State) (x : Subject) (end m first next : ℕ) (c : Course) → Follows states first next c
-    → IsMoreAt (HasPath states x end m first) (Reaches (HasPath states x end m next) (GoesNew x c))
+    → IsMoreAt (HasPath states x end m first) (Reaches (HasPath states x end m next) (GoesOnce x c))
 onto states x end m first next c o s w = let t = o.through x end m s w.0 w.1 in (t.to, t.goes, (t.rest, t.path))
 
 from : (states : List State) (x : Subject) (end m first next : ℕ) (c : Course) → Follows states first next c
-    → IsMoreAt (Reaches (HasPath states x end m next) (GoesNew x c)) (HasPath states x end m first)
+    → IsMoreAt (Reaches (HasPath states x end m next) (GoesOnce x c)) (HasPath states x end m first)
 from states x end m first next c o s r = o.back x end m s r.0 r.1 r.2
 
 pub Follows-after : (states : List State) (first middle next : ℕ) (c d : Course) → Follows states first middle c → Follows states middle next d
@@ -296,7 +297,7 @@ Follows-after states first middle next c d oc od = record {
         rest = h.rest;
         first = (
           g.to,
-          new-alike x c (HasPath states x end m middle) (Reaches (HasPath states x end m next) (GoesNew x d)) s g.to (onto states x end m middle next d od)
+          new-alike x c (HasPath states x end m middle) (Reaches (HasPath states x end m next) (GoesOnce x d)) s g.to (onto states x end m middle next d od)
               (from states x end m middle next d od) g.first,
           h.first,
         );
@@ -306,7 +307,8 @@ Follows-after states first middle next c d oc od = record {
       };
 }
 
-pub Follows-choose : (states : List State) (f one other next : ℕ) (c d : Course) → slice_get states f ≡ Some (Fork one other) → Follows states one next c
+pub Follows-choose : (states : List State) (f one other next : ℕ) (c d : Course) → slice_get states f ≡ Some (Fork one other)
+    → Follows states one next c
     → Follows states other next d → Follows states f next (Choose f c d)
 Follows-choose states f one other next c d is oc od = record {
   through = λ x end m s rest w.
@@ -320,9 +322,9 @@ Follows-choose states f one other next c d is oc od = record {
       record { to = g.to; rest = g.rest; goes = (e.0, inr g.goes); path = g.path; ends = g.ends ∙ v.ends; fewer = omega (arith, g.fewer, v.fewer) })
       e.1;
   back = λ x end m s t g w. ⊎_elim
-      (λ (h : GoesNew x c (chosen f s) t).
+      (λ (h : GoesOnce x c (chosen f s) t).
       choice_back states x end m f one other true s one is g.0 (inl refl) (oc.back x end m (chosen f s) t h w))
-      (λ (h : GoesNew x d (chosen f s) t).
+      (λ (h : GoesOnce x d (chosen f s) t).
       choice_back states x end m f one other true s other is g.0 (inr refl) (od.back x end m (chosen f s) t h w))
       g.1;
   goes = λ x end m s rest l.
@@ -415,7 +417,8 @@ turns_through states x end m f first next (suc fuel) greedy c s rest is oc l w =
     e.1
 
 turns_back : (states : List State) (x : Subject) (end m f first next : ℕ) (greedy : Bool) (c : Course) (n : ℕ) (s t : Stand)
-    → slice_get states f ≡ Some (choice_of greedy first next) → Follows states first f c → Turns (GoesNew x c) f n s t → HasPath states x end m next t
+    → slice_get states f ≡ Some (choice_of greedy first next) → Follows states first f c → Turns (GoesOnce x c) f n s t
+    → HasPath states x end m next t
     → HasPath states x end m f s
 turns_back states x end m f first next greedy c zero s t is oc g w =
     choice_back states x end m f first next greedy s next is g.0 (inr refl) (subst (λ (k : Stand). HasPath states x end m next k) g.1 w)
@@ -427,7 +430,7 @@ turn_again : (states : List State) (x : Subject) (end m f first next : ℕ) (gre
     → slice_get states f ≡ Some (choice_of greedy first next) → Follows states first f c
     → ((t : Stand) (rest : List ℕ) → length rest < most → Least states x end m f t rest
     → FirstThrough states x end m next (Turn f greedy c) t (length rest) (arrive states f t rest))
-    → IsNew f s → (greedy ≡ false → HasPath states x end m next (chosen f s) → ⊥) → Way states x end m f first s most last
+    → IsUnmade f s → (greedy ≡ false → HasPath states x end m next (chosen f s) → ⊥) → Way states x end m f first s most last
     → FirstThrough states x end m next (Turn f greedy c) s most last
 turn_again states x end m f first next greedy c s most last is oc again new unwanted v =
     let g = oc.goes x end m (chosen f s) v.rest v.least in
@@ -441,7 +444,7 @@ turn_again states x end m f first next greedy c s most last is oc again new unwa
           new,
           λ e w. unwanted e w,
           g.to,
-          new-alike x c (HasPath states x end m f) (Reaches (HasPath states x end m next) (SomeTurns (GoesNew x c) f)) (chosen f s) g.to
+          new-alike x c (HasPath states x end m f) (Reaches (HasPath states x end m next) (SomeTurns (GoesOnce x c) f)) (chosen f s) g.to
               (λ k w.
               let t = turns_through states x end m f first next (suc (length w.0)) greedy c k w.0 is oc (omega arith) w.1 in (t.to, t.goes, (t.rest, t.path)))
               (λ k r. turns_back states x end m f first next greedy c r.1.0 k r.0 is oc r.1.1 r.2) g.first,
@@ -454,7 +457,7 @@ turn_again states x end m f first next greedy c s most last is oc again new unwa
     }
 
 turn_over : (states : List State) (x : Subject) (end m f first next : ℕ) (greedy : Bool) (c : Course) (s : Stand) (most : ℕ) (last : ℕ × Stand)
-    → slice_get states f ≡ Some (choice_of greedy first next) → Follows states first f c → IsNew f s
+    → slice_get states f ≡ Some (choice_of greedy first next) → Follows states first f c → IsUnmade f s
     → (greedy ≡ true → HasPath states x end m first (chosen f s) → ⊥) → Way states x end m f next s most last
     → FirstThrough states x end m next (Turn f greedy c) s most last
 turn_over states x end m f first next greedy c s most last is oc new none v = record {

@@ -68,7 +68,8 @@ module _ (e : Search) (i : ℕ) (claim : ℕ × ℕ → Type 0) where
   claim-after p run some c = subst claim (last-before p run some) c
 
   -- of a fork first the one way decides, then the other
-  pub decides-fork : (seen after : ℕ → Bool) (s a b : ℕ) (rest : Type 0) (list : List ℕ) → IsMore seen s after → seen s ≡ false → IsPlace e (s, i)
+  pub decides-fork : (seen after : ℕ → Bool) (s a b : ℕ) (rest : Type 0) (list : List ℕ) → IsMore seen s after → seen s ≡ false
+      → IsPlace e (s, i)
       → slice_get e.states s ≡ Some (Fork a b) → Decides e i seen claim rest (s ∷ list) → Decides e i after claim rest (a ∷ b ∷ list)
   decides-fork seen after s a b rest list g fresh there is d = (
     λ run best. claim-after (s, i) run best.is_unseen.is_match.some (d.0 ((s, i) ∷ run)
@@ -95,7 +96,8 @@ module _ (e : Search) (i : ℕ) (claim : ℕ × ℕ → Type 0) where
       ))
 
   -- a state from which one step leads on with no byte passes on to where it leads
-  pub decides-single : (seen after : ℕ → Bool) (s t : ℕ) (rest : Type 0) (list : List ℕ) → IsMore seen s after → seen s ≡ false → IsPlace e (s, i)
+  pub decides-single : (seen after : ℕ → Bool) (s t : ℕ) (rest : Type 0) (list : List ℕ) → IsMore seen s after → seen s ≡ false
+      → IsPlace e (s, i)
       → accepts e (s, i) ≡ false → ((a b : ℕ) → slice_get e.states s ≡ Some (Fork a b) → ⊥) → Leads e (s, i) (t, i)
       → ((q : ℕ × ℕ) → Leads e (s, i) q → q ≡ (t, i))
       → Decides e i seen claim rest (s ∷ list) → Decides e i after claim rest (t ∷ list)

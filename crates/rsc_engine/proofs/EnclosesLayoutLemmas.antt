@@ -16,7 +16,8 @@ StaysOnWay-is P Q slot (Capture c next) f x = (x.0, f next x.1)
 StaysOnWay-is P Q slot (Accept p) f x = x
 
 -- what leads on from a part of the way is on the way
-on_way : (low high exit least most next s : ℕ) → least ≤ low → high ≤ most → IsOnWay least most next exit → IsOnWay low high exit s → IsOnWay least most next s
+on_way : (low high exit least most next s : ℕ) → least ≤ low → high ≤ most → IsOnWay least most next exit → IsOnWay low high exit s
+    → IsOnWay least most next s
 on_way low high exit least most next s l h e (inl x) = inl (omega (arith, l, x.0), omega (arith, h, x.1))
 on_way low high exit least most next s l h e (inr same) = subst (λ (t : ℕ). IsOnWay least most next t) (sym same) e
 
@@ -44,7 +45,8 @@ one_state slot low high P states state one is x = λ k other l h at.
 
 -- ---- parts
 
-pub Encloses-one : (slot low high id next : ℕ) (states : List State) (state : State) → id ≡ low → high ≡ low + 1 → slice_get states id ≡ Some state
+pub Encloses-one : (slot low high id next : ℕ) (states : List State) (state : State) → id ≡ low → high ≡ low + 1
+    → slice_get states id ≡ Some state
     → StaysOnWay (λ (s : ℕ). IsOnWay low high next s) slot state → Encloses slot low high id next states
 Encloses-one slot low high id next states state same one is x = record {
   begins = inl (omega (arith, same), omega (arith, same, one));
@@ -55,7 +57,8 @@ pub Encloses-then : (slot low middle high first between next : ℕ) (states : Li
     → Encloses slot low middle between next states → Encloses slot middle high first between states → Encloses slot low high first next states
 Encloses-then slot low middle high first between next states l m x y = record {
   begins = later first y.begins;
-  stays = joined slot low middle high (λ (s : ℕ). IsOnWay low middle next s) (λ (s : ℕ). IsOnWay middle high between s) (λ (s : ℕ). IsOnWay low high next s)
+  stays = joined slot low middle high (λ (s : ℕ). IsOnWay low middle next s) (λ (s : ℕ). IsOnWay middle high between s)
+      (λ (s : ℕ). IsOnWay low high next s)
       states earlier later x.stays y.stays;
 }
   where
@@ -79,7 +82,8 @@ above slot low last high id next states state l same one x is y = record {
     wider : (s : ℕ) → IsOnWay low last next s → IsOnWay low high next s
     wider s = on_way low last next low high next s (omega arith) (omega (arith, one)) (inr refl)
 
-pub Encloses-either : (slot low middle last high one other id next : ℕ) (states : List State) → low ≤ middle → middle ≤ last → id ≡ last → high ≡ last + 1
+pub Encloses-either : (slot low middle last high one other id next : ℕ) (states : List State) → low ≤ middle → middle ≤ last → id ≡ last
+    → high ≡ last + 1
     → Encloses slot low middle other next states → Encloses slot middle last one next states → slice_get states id ≡ Some (Fork one other)
     → Encloses slot low high id next states
 Encloses-either slot low middle last high one other id next states l m same more x y is =
@@ -102,7 +106,8 @@ Encloses-choice slot low last high one id next states l same more x (inr is) =
     above slot low last high id next states (Fork next one) l same more x.stays is (inr refl, x.begins)
 
 -- a loop is entered at its fork, and at its part
-pub Encloses-loop : (slot low middle last high first again next : ℕ) (states : List State) → again ≡ low → middle ≡ low + 1 → middle ≤ last → high ≡ last
+pub Encloses-loop : (slot low middle last high first again next : ℕ) (states : List State) → again ≡ low → middle ≡ low + 1 → middle ≤ last
+    → high ≡ last
     → IsChoice states again first next → Encloses slot middle last first again states
     → Encloses slot low high again next states × Encloses slot low high first next states
 Encloses-loop slot low middle last high first again next states same one l end c x =
@@ -121,5 +126,6 @@ Encloses-loop slot low middle last high first again next states same one l end c
         (subst (λ (n : ℕ). slice_get states n ≡ Some (Fork next first)) same is) (inr refl, within first x.begins)
 
     stays : AreStaying slot low high (λ (s : ℕ). IsOnWay low high next s) states
-    stays = joined slot low middle high (λ (s : ℕ). IsOnWay low high next s) (λ (s : ℕ). IsOnWay middle last again s) (λ (s : ℕ). IsOnWay low high next s)
+    stays = joined slot low middle high (λ (s : ℕ). IsOnWay low high next s) (λ (s : ℕ). IsOnWay middle last again s)
+        (λ (s : ℕ). IsOnWay low high next s)
         states (λ s y. y) within (fork c) (λ k state m h is. x.stays k state m (omega (arith, h, end)) is)

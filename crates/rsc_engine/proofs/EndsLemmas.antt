@@ -6,7 +6,7 @@ use Rattle.rsc_nfa.specs.Steps.{place, IsStep, StepsTo}
 use Rattle.rsc_engine.specs.declared.dfa.pass_table.PassRow.{PassRow}
 use Rattle.rsc_engine.specs.Searches.{Search}
 use Rattle.rsc_engine.specs.Runs.{IsMatchRun}
-use Rattle.rsc_engine.specs.Preferred.{HasNone}
+use Rattle.rsc_engine.specs.Preferred.{HasNoFirstMatch}
 use Rattle.rsc_engine.specs.Ends.{IsMatchEnd, IsEarliestEnd}
 use Rattle.rsc_engine.specs.OrderedLayout.{IsEndOf}
 use Rattle.rsc_engine.specs.PassesLayout.{Status, Open, Closed, answer_of, IsFound, IsDue}
@@ -14,12 +14,13 @@ use Rattle.rsc_engine.specs.ForwardLayout.{last_with, IsHeld, IsGoing, StandsFor
 use Rattle.rsc_engine.proofs.RunsLemmas.{run-rises, match-wider}
 
 -- a step within both ends
-step-to : (states : List State) (t : ℕ) (W : ℕ → Bool) (h : List ℕ) (end last : ℕ) (p q : ℕ × ℕ) → q.1 ≤ last → IsStep states t W h end p q
-    → IsStep states t W h last p q
-step-to states t W h end last p q high step = go (slice_get states p.0) step
+step-to : (states : List State) (t : ℕ) (chars : ℕ → Bool) (h : List ℕ) (end last : ℕ) (p q : ℕ × ℕ) → q.1 ≤ last
+    → IsStep states t chars h end p q
+    → IsStep states t chars h last p q
+step-to states t chars h end last p q high step = go (slice_get states p.0) step
   where
-    go : (o : Option State) → MatchOption o ⊥ (λ (state : State). StepsTo state t W h end p.1 q)
-        → MatchOption o ⊥ (λ (state : State). StepsTo state t W h last p.1 q)
+    go : (o : Option State) → MatchOption o ⊥ (λ (state : State). StepsTo state t chars h end p.1 q)
+        → MatchOption o ⊥ (λ (state : State). StepsTo state t chars h last p.1 q)
     go None x = x
     go (Some (ByteRange a b next)) x = (omega (arith, x.3, high), x.1, x.2, x.3)
     go (Some (Assert l next)) x = x
@@ -44,7 +45,7 @@ match-down e t from run high m = record {
     below k l = omega (arith, high, run-rises e run k (length run - 1) m.is_run (omega (arith, l)) (omega (arith, l)))
 
 -- without a match up to an end none ends there or before
-none-ends : (e : Search) (t j : ℕ) → j ≤ t → HasNone (search_up_to e t) → ¬ (IsMatchEnd e j)
+none-ends : (e : Search) (t j : ℕ) → j ≤ t → HasNoFirstMatch (search_up_to e t) → ¬ (IsMatchEnd e j)
 none-ends e t j le none x = none x.from (record { start = x.begins.start; end = omega (arith, from, here); anchored = x.begins.anchored }) x.run down
   where
     down : IsMatchRun (search_up_to e t) (e.start_state, x.from) x.run
@@ -65,7 +66,7 @@ positions x y is = cc
 -- ---- what a pass answers
 
 abbrev pub IsAnswered : Search → Option (ℕ × ℕ) → Type 0
-IsAnswered e last = MatchOption last (HasNone e) (λ f. IsEndOf e f.0 f.1)
+IsAnswered e last = MatchOption last (HasNoFirstMatch e) (λ f. IsEndOf e f.0 f.1)
 
 going-answer : (e : Search) (begins : Bool) (status : Status) (last : Option (ℕ × ℕ)) → IsHeld e status begins last → IsFound e (answer_of status)
     → IsAnswered e last
@@ -79,7 +80,8 @@ going-answer e begins (Closed (Some q)) last held found = rw held.1.1 (record {
 })
 
 -- it has gone past the end
-pub going-past-end : (e : Search) (k : ℕ) (begins : Bool) (last : Option (ℕ × ℕ)) (list : List ℕ) → e.end < k → IsGoing e k begins last list → IsAnswered e last
+pub going-past-end : (e : Search) (k : ℕ) (begins : Bool) (last : Option (ℕ × ℕ)) (list : List ℕ) → e.end < k → IsGoing e k begins last list
+    → IsAnswered e last
 going-past-end e k begins last list past g = going-answer e begins g.status last g.held (g.over past)
 
 -- no state is left, and no match begins later
@@ -95,7 +97,7 @@ pub answered-some : (e : Search) (last : Option (ℕ × ℕ)) → IsAnswered e l
 answered-some e None x = tt
 answered-some e (Some f) x = x
 
-pub answered-none : (e : Search) (last : Option (ℕ × ℕ)) → IsAnswered e last → IfNone last (HasNone e)
+pub answered-none : (e : Search) (last : Option (ℕ × ℕ)) → IsAnswered e last → IfNone last (HasNoFirstMatch e)
 answered-none e None x = x
 answered-none e (Some f) x = tt
 
@@ -136,8 +138,10 @@ first-mark e classes old new k next p at low high before after = record {
     now : at ≤ e.end → StandsForward (search_up_to e at) classes new next (at + 1) (Some (p, at))
     now l = after at (omega arith) l
 
-pub first-marked : (e : Search) (classes : List ℕ) (old new : List PassRow) (k next at : ℕ) (found : Option ℕ) (last now : Option (ℕ × ℕ)) → e.start ≤ at
-    → at ≤ e.end → last ≡ None → now ≡ last_with found at last → StandsInEach e classes old k at last → StandsInEach e classes new next (at + 1) now
+pub first-marked : (e : Search) (classes : List ℕ) (old new : List PassRow) (k next at : ℕ) (found : Option ℕ) (last now : Option (ℕ × ℕ))
+    → e.start ≤ at
+    → at ≤ e.end → last ≡ None → now ≡ last_with found at last → StandsInEach e classes old k at last
+    → StandsInEach e classes new next (at + 1) now
     → IfSome now (λ f. IsEarliestEnd e f.1)
 first-marked e classes old new k next at found last now low high none is before after =
     subst (λ (l : Option (ℕ × ℕ)). IfSome l (λ f. IsEarliestEnd e f.1)) (sym same)

@@ -9,7 +9,7 @@ use Rattle.rsc_nfa.specs.declared.state.State.TheVariants.{ByteRange, Assert, Fo
 use Rattle.rsc_nfa.specs.Steps.{StepsTo, place, is_between}
 use Rattle.rsc_engine.specs.Searches.{Search}
 use Rattle.rsc_engine.specs.Runs.{Leads, is_accepting, IsMatchRun, HasNoMatch}
-use Rattle.rsc_engine.specs.Preferred.{MayBegin, IsLeftmostFirst, HasNone}
+use Rattle.rsc_engine.specs.Preferred.{MayBegin, IsLeftmostFirst, HasNoFirstMatch}
 use Rattle.rsc_engine.specs.Ends.{IsMatchEnd, IsEarliestEnd}
 use Rattle.rsc_engine.specs.RowsLayout.{machine_of, IsMarked}
 use Rattle.rsc_engine.specs.OrderedLayout.{IsEndOf}
@@ -122,7 +122,7 @@ module _ (e : Search) (s : ℕ) (low : e.start ≤ s) (none : (at : ℕ) → e.s
         (cases_lt m.from s);
   }
 
-  pub none-earlier : HasNone (start_at e s) → HasNone e
+  pub none-earlier : HasNoFirstMatch (start_at e s) → HasNoFirstMatch e
   none-earlier n at may = ⊎_elim
       (λ (l : at < s). none at may.start l)
       (λ (l : s ≤ at). none_shift e s e.start at l (n at (may-later at may l)))

@@ -14,7 +14,8 @@ IsMore Wanted Other = (i : ℕ) → Wanted i → Other i
 pub ends-more : (Wanted Other : ℕ → Type 0) (R : ℕ → ℕ → Type 0) → IsMore Wanted Other → IsMore (HasEndIn Wanted R) (HasEndIn Other R)
 ends-more Wanted Other R more i e = (e.0, e.1, more e.0 e.2)
 
-pub ends-along : (Wanted : ℕ → Type 0) (R S : ℕ → ℕ → Type 0) → ((i j : ℕ) → R i j → S i j) → IsMore (HasEndIn Wanted R) (HasEndIn Wanted S)
+pub ends-along : (Wanted : ℕ → Type 0) (R S : ℕ → ℕ → Type 0) → ((i j : ℕ) → R i j → S i j)
+    → IsMore (HasEndIn Wanted R) (HasEndIn Wanted S)
 ends-along Wanted R S along i e = (e.0, along i e.0 e.1, e.2)
 
 pub repeats-more : (R : ℕ → ℕ → Type 0) (min : ℕ) (max : Option ℕ) (Wanted Other : ℕ → Type 0) → IsMore Wanted Other
@@ -55,8 +56,10 @@ once_more min n (Some max) may l = ⊎_elim
     there some h (inl l) = inr (omega (arith, l, h))
     there some h (inr e) = inl (omega (arith, some, h, e))
 
-times-end : (First : (ℕ → Type 0) → ℕ → ℕ → Type 0) (R : ℕ → ℕ → Type 0) (greedy : Bool) → IsEnd First R → (n min : ℕ) (max : Option ℕ)
-    (Wanted : ℕ → Type 0) (i j : ℕ) → AreFirstTimes First R greedy n min max Wanted i j → (min ≤ n) × IsAtMost min max n × Times R n i j × Wanted j
+times-end : (First : (ℕ → Type 0) → ℕ → ℕ → Type 0) (R : ℕ → ℕ → Type 0) (greedy : Bool) → IsEnd First R
+    → (n min : ℕ) (max : Option ℕ)
+    (Wanted : ℕ → Type 0) (i j : ℕ) → AreFirstTimes First R greedy n min max Wanted i j → (min ≤ n) × IsAtMost min max n × Times R n i j
+    × Wanted j
 times-end First R greedy end zero min max Wanted i j f = (omega (arith, f.0), none max, f.1, f.2)
   where
     none : (max : Option ℕ) → IsAtMost min max 0
@@ -91,15 +94,19 @@ abbrev IsOne : ((ℕ → Type 0) → ℕ → ℕ → Type 0) → Type 1
 IsOne First = (Wanted : ℕ → Type 0) (i j k : ℕ) → First Wanted i j → First Wanted i k → j ≡ k
 
 -- where it comes no more it doesn't come once more
-over_or_more : (First : (ℕ → Type 0) → ℕ → ℕ → Type 0) (R : ℕ → ℕ → Type 0) (greedy : Bool) → IsEnd First R → (n min : ℕ) (max : Option ℕ)
-    (Wanted : ℕ → Type 0) (i j k : ℕ) → AreFirstTimes First R greedy zero min max Wanted i j → AreFirstTimes First R greedy (suc n) min max Wanted i k → ⊥
+over_or_more : (First : (ℕ → Type 0) → ℕ → ℕ → Type 0) (R : ℕ → ℕ → Type 0) (greedy : Bool) → IsEnd First R
+    → (n min : ℕ) (max : Option ℕ)
+    (Wanted : ℕ → Type 0) (i j k : ℕ) → AreFirstTimes First R greedy zero min max Wanted i j
+    → AreFirstTimes First R greedy (suc n) min max Wanted i k → ⊥
 over_or_more First R true end n min max Wanted i j k f g =
     let one = end (HasEndIn Wanted (SomeTimes R (min - 1) (limit_after max))) i g.2 g.3 in
     f.3 refl (g.0, (g.2, one.0, one.1))
 over_or_more First R false end n min max Wanted i j k f g = g.1 refl f.0 (subst Wanted (sym f.1) f.2)
 
-times-one : (First : (ℕ → Type 0) → ℕ → ℕ → Type 0) (R : ℕ → ℕ → Type 0) (greedy : Bool) → IsEnd First R → IsOne First → (n m min : ℕ) (max : Option ℕ)
-    (Wanted : ℕ → Type 0) (i j k : ℕ) → AreFirstTimes First R greedy n min max Wanted i j → AreFirstTimes First R greedy m min max Wanted i k → j ≡ k
+times-one : (First : (ℕ → Type 0) → ℕ → ℕ → Type 0) (R : ℕ → ℕ → Type 0) (greedy : Bool) → IsEnd First R → IsOne First
+    → (n m min : ℕ) (max : Option ℕ)
+    (Wanted : ℕ → Type 0) (i j k : ℕ) → AreFirstTimes First R greedy n min max Wanted i j → AreFirstTimes First R greedy m min max Wanted i k
+    → j ≡ k
 times-one First R greedy end one zero zero min max Wanted i j k f g = sym f.1 ∙ g.1
 times-one First R greedy end one zero (suc m) min max Wanted i j k f g = absurd (over_or_more First R greedy end m min max Wanted i j k f g)
 times-one First R greedy end one (suc n) zero min max Wanted i j k f g = absurd (over_or_more First R greedy end n min max Wanted i k j g f)
@@ -152,7 +159,8 @@ up_to-loops greedy zero p e = refl
 up_to-loops greedy (suc n) p e =
     optional-loops greedy (Then p (up_to greedy n p)) (both (loops_take_bytes p) (loops_take_bytes (up_to greedy n p)) e (up_to-loops greedy n p e))
 
-pub part-loops : (min : ℕ) (max : Option ℕ) (greedy : Bool) (p : Pattern) → loops_take_bytes (Repeat min max greedy p) ≡ true → loops_take_bytes p ≡ true
+pub part-loops : (min : ℕ) (max : Option ℕ) (greedy : Bool) (p : Pattern) → loops_take_bytes (Repeat min max greedy p) ≡ true
+    → loops_take_bytes p ≡ true
 part-loops min None greedy p e = (both_are (not (may_be_empty p)) (loops_take_bytes p) e).1
 part-loops min (Some max) greedy p e = e
 

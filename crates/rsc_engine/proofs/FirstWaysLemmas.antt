@@ -15,7 +15,8 @@ use Rattle.rsc_engine.proofs.FirstEndsLemmas.{IsMore, ends-more, ends-along, rep
 abbrev IsAlike : ((ℕ → Type 0) → Point → Point → Type 0) → Type 1
 IsAlike First = (Wanted Other : ℕ → Type 0) (m n : Point) → IsMore Wanted Other → IsMore Other Wanted → First Wanted m n → First Other m n
 
-rounds-alike : (First : (ℕ → Type 0) → Point → Point → Type 0) (R : ℕ → ℕ → Type 0) (greedy : Bool) → IsAlike First → (times min : ℕ) (max : Option ℕ)
+rounds-alike : (First : (ℕ → Type 0) → Point → Point → Type 0) (R : ℕ → ℕ → Type 0) (greedy : Bool) → IsAlike First
+    → (times min : ℕ) (max : Option ℕ)
     → IsAlike (AreFirstRounds First R greedy times min max)
 rounds-alike First R greedy alike zero min max Wanted Other m n more less f =
     (f.0, f.1, more n.0 f.2, λ e c. f.3 e (repeats-more R min max Other Wanted less m.0 c))
@@ -54,7 +55,8 @@ way-alike x (Group slot a) Wanted Other m n more less f = (f.0, way-alike x a Wa
 abbrev IsToEnd : ((ℕ → Type 0) → Point → Point → Type 0) → ((ℕ → Type 0) → ℕ → ℕ → Type 0) → Type 1
 IsToEnd First End = (Wanted : ℕ → Type 0) (m n : Point) → First Wanted m n → End Wanted m.0 n.0
 
-rounds-end : (First : (ℕ → Type 0) → Point → Point → Type 0) (End : (ℕ → Type 0) → ℕ → ℕ → Type 0) (R : ℕ → ℕ → Type 0) (greedy : Bool) → IsToEnd First End
+rounds-end : (First : (ℕ → Type 0) → Point → Point → Type 0) (End : (ℕ → Type 0) → ℕ → ℕ → Type 0)
+    (R : ℕ → ℕ → Type 0) (greedy : Bool) → IsToEnd First End
     → (times min : ℕ) (max : Option ℕ) → IsToEnd (AreFirstRounds First R greedy times min max) (AreFirstTimes End R greedy times min max)
 rounds-end First End R greedy end zero min max Wanted m n f = (f.0, ap (λ (k : Point). k.0) f.1, f.2, f.3)
 rounds-end First End R greedy end (suc times) min max Wanted m n f = (
@@ -98,15 +100,18 @@ same_mark : (m n : Point) → m.0 ≡ n.0 → m.1 ≡ n.1 → m ≡ n
 same_mark m n a b = ap (λ (i : ℕ). (i, m.1)) a ∙ ap (λ (r : List (ℕ × ℕ)). (n.0, r)) b
 
 -- where it comes no more it doesn't come once more
-over_or_more : (First : (ℕ → Type 0) → Point → Point → Type 0) (R : ℕ → ℕ → Type 0) (greedy : Bool) → LeadsOn First R → (times min : ℕ) (max : Option ℕ)
-    (Wanted : ℕ → Type 0) (m n k : Point) → AreFirstRounds First R greedy zero min max Wanted m n → AreFirstRounds First R greedy (suc times) min max Wanted m k
+over_or_more : (First : (ℕ → Type 0) → Point → Point → Type 0) (R : ℕ → ℕ → Type 0) (greedy : Bool) → LeadsOn First R
+    → (times min : ℕ) (max : Option ℕ)
+    (Wanted : ℕ → Type 0) (m n k : Point) → AreFirstRounds First R greedy zero min max Wanted m n
+    → AreFirstRounds First R greedy (suc times) min max Wanted m k
     → ⊥
 over_or_more First R true on times min max Wanted m n k f g =
     let one = on (HasEndIn Wanted (SomeTimes R (min - 1) (limit_after max))) m g.2 g.3 in
     f.3 refl (g.0, (g.2.0, one.0, one.1))
 over_or_more First R false on times min max Wanted m n k f g = g.1 refl f.0 (subst (λ (z : Point). Wanted z.0) (sym f.1) f.2)
 
-rounds-one : (First : (ℕ → Type 0) → Point → Point → Type 0) (R : ℕ → ℕ → Type 0) (greedy : Bool) → LeadsOn First R → IsOne First → (s t min : ℕ)
+rounds-one : (First : (ℕ → Type 0) → Point → Point → Type 0) (R : ℕ → ℕ → Type 0) (greedy : Bool) → LeadsOn First R → IsOne First
+    → (s t min : ℕ)
     (max : Option ℕ) (Wanted : ℕ → Type 0) (m n k : Point) → AreFirstRounds First R greedy s min max Wanted m n
     → AreFirstRounds First R greedy t min max Wanted m k → n ≡ k
 rounds-one First R greedy on one zero zero min max Wanted m n k f g = sym f.1 ∙ g.1
@@ -234,7 +239,8 @@ counted-way (suc k) l max greedy p x Wanted m n f =
 
 -- ---- the same ways, in any order
 
-TimesWith-add : (R : Point → Point → Type 0) (k l : ℕ) (m between n : Point) → TimesWith R k m between → TimesWith R l between n → TimesWith R (k + l) m n
+TimesWith-add : (R : Point → Point → Type 0) (k l : ℕ) (m between n : Point) → TimesWith R k m between → TimesWith R l between n
+    → TimesWith R (k + l) m n
 TimesWith-add R zero l m between n x y =
     let same : zero + l ≡ l = omega arith in
     rw same (subst (λ (z : Point). TimesWith R l z n) (sym x) y)

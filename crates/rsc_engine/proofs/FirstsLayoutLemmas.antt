@@ -6,7 +6,7 @@ use Rattle.rsc_nfa.specs.declared.state.State.{State}
 use Rattle.rsc_nfa.specs.declared.state.State.TheVariants.{Fork, Accept}
 use Rattle.rsc_nfa.specs.Steps.{StepsTo}
 use Rattle.rsc_engine.specs.Patterns.{Pattern, Group, Subject}
-use Rattle.rsc_engine.specs.LinksLayout.{Aim, Ends}
+use Rattle.rsc_engine.specs.LinksLayout.{Aim, StepsLead}
 use Rattle.rsc_engine.specs.BeginsLayout.{Begins, IsOfOne, IsOfSome}
 use Rattle.rsc_engine.specs.FirstsLayout.{OrdersOne, OrdersSome, TakesFirst, point_of}
 use Rattle.rsc_engine.specs.Ways.{Point, GoesWith}
@@ -16,7 +16,7 @@ use Rattle.rsc_engine.specs.WaysLayout.{finish}
 use Rattle.rsc_engine.specs.ByWaysLayout.{ByWays}
 use Rattle.rsc_engine.proofs.WaysLayoutLemmas.{Rest, either_way, aim_at, way_of}
 use Rattle.rsc_engine.proofs.ByWaysLayoutLemmas.{ByWays-group}
-use Rattle.rsc_engine.specs.BeginsLayout.{IsWhole}
+use Rattle.rsc_engine.specs.BeginsLayout.{IsPatternStates}
 use Rattle.rsc_engine.specs.Courses.{Course, Within, Stand, chosen}
 use Rattle.rsc_engine.specs.PreferredWays.{choices}
 use Rattle.rsc_engine.specs.PathsLayout.{PathLeads, IsPath, HasPath, arrive}
@@ -43,7 +43,7 @@ path_stays states x end m f q s [] is p = refl
 path_stays states x end m f q s (g ∷ rest) is p = absurd (subst (λ (o : Option State). PathLeads o x end f s g) is p.0)
 
 pub OrdersOne-is : (states : List State) (slot_of : ℕ → ℕ) (number low high top accept after body first : ℕ) (p : Pattern)
-    → IsWhole states number low high accept after body first → ByWays states body after (numbered slot_of 1 p)
+    → IsPatternStates states number low high accept after body first → ByWays states body after (numbered slot_of 1 p)
     → TakesCourse low high body after (numbered slot_of 1 p) states → high ≤ top → OrdersOne states slot_of top first number p
 OrdersOne-is states slot_of number low high top accept after body first p w o t l = record {
   through = λ x end from rest v.
@@ -85,7 +85,8 @@ OrdersSome-last states slot_of high first n p patterns at last o m q from its =
     let there = slice_get_within patterns m q its in
     let same : m ≡ n = omega (arith, there, last, from) in
     let pattern : p ≡ q = same_some p q (sym at ∙ (ap (λ (k : ℕ). slice_get patterns k) (sym same) ∙ its)) in
-    subst (λ (k : ℕ). OrdersOne states (slot_of k) high first k q) (sym same) (subst (λ (r : Pattern). OrdersOne states (slot_of n) high first n r) pattern o)
+    subst (λ (k : ℕ). OrdersOne states (slot_of k) high first k q) (sym same)
+    (subst (λ (r : Pattern). OrdersOne states (slot_of n) high first n r) pattern o)
 
 up_to_end : (end : ℕ) (R : ℕ → ℕ → Type 0) → AreBoth R (λ k. k.at ≤ end) (λ k. k.at ≤ end)
 up_to_end end R = (λ s u a l. let same = a.at in omega (arith, l, same), λ s u a l. let same = a.at in omega (arith, l, same))
@@ -104,12 +105,14 @@ after_fork states x end m f g high c s most last l below w g_takes =
 
 -- at a fork, of a pattern that the one way leads to, and the other doesn't
 OrdersOne-first : (states : List State) (slot_of : ℕ → ℕ) (high top s one other m : ℕ) (p : Pattern) → slice_get states s ≡ Some (Fork one other)
-    → high ≤ s → high ≤ top → OrdersOne states slot_of high one m p → ((a : Aim) (n i : ℕ) → a.pattern ≡ m → Ends states a n other i → ⊥)
+    → high ≤ s → high ≤ top → OrdersOne states slot_of high one m p
+    → ((a : Aim) (n i : ℕ) → a.pattern ≡ m → StepsLead states a n other i → ⊥)
     → OrdersOne states slot_of top s m p
 OrdersOne-first states slot_of high top s one other m p is above l o none = record {
   through = λ x end from rest w. ⊎_elim
       (λ (v : Rest states x end m one from (length rest) (finish states (s, from.0) rest from.1)).
-      subst (λ (k : (ℕ × ℕ) × List (ℕ × ℕ)). GoesWith x (Group (2 * m) (numbered slot_of 1 p)) from (point_of k)) v.ends (o.through x end from v.rest v.way))
+      subst (λ (k : (ℕ × ℕ) × List (ℕ × ℕ)). GoesWith x (Group (2 * m) (numbered slot_of 1 p)) from (point_of k)) v.ends
+      (o.through x end from v.rest v.way))
       (λ (v : Rest states x end m other from (length rest) (finish states (s, from.0) rest from.1)).
       absurd (none (aim_at x end m (last_place (other, from.0) v.rest)) (length v.rest) from.0 refl
       (way_of states x end m (other, from.0) v.rest v.way.within v.way.steps v.way.accepts)))
@@ -121,13 +124,14 @@ OrdersOne-first states slot_of high top s one other m p is above l o none = reco
       after_fork states x end m s one high o.course.course st (length rest) (arrive states s st rest) above o.below w
       (o.takes x end (chosen s st) w.rest w.least))
       (λ (w : (HasPath states x end m one (chosen s st) → ⊥) × paths.Way states x end m s other st (length rest) (arrive states s st rest)).
-      absurd (none (record { text = x; end = end; pattern = m; position = (arrive states other (chosen s st) w.1.rest).1.at }) (length w.1.rest) st.at refl
+      absurd (none (record { subject = x; end = end; pattern = m; position = (arrive states other (chosen s st) w.1.rest).1.at }) (length w.1.rest) st.at refl
       (path_ends states x end m other (chosen s st) w.1.rest w.1.least.path)))
       ((paths.from_fork states x end m s one other st rest is least).1);
 }
 
 OrdersOne-next : (states : List State) (slot_of : ℕ → ℕ) (high top s one other m : ℕ) (p : Pattern) → slice_get states s ≡ Some (Fork one other)
-    → high ≤ s → high ≤ top → OrdersOne states slot_of high other m p → ((a : Aim) (n i : ℕ) → a.pattern ≡ m → Ends states a n one i → ⊥)
+    → high ≤ s → high ≤ top → OrdersOne states slot_of high other m p
+    → ((a : Aim) (n i : ℕ) → a.pattern ≡ m → StepsLead states a n one i → ⊥)
     → OrdersOne states slot_of top s m p
 OrdersOne-next states slot_of high top s one other m p is above l o none = record {
   through = λ x end from rest w. ⊎_elim
@@ -135,13 +139,14 @@ OrdersOne-next states slot_of high top s one other m p is above l o none = recor
       absurd (none (aim_at x end m (last_place (one, from.0) v.rest)) (length v.rest) from.0 refl
       (way_of states x end m (one, from.0) v.rest v.way.within v.way.steps v.way.accepts)))
       (λ (v : Rest states x end m other from (length rest) (finish states (s, from.0) rest from.1)).
-      subst (λ (k : (ℕ × ℕ) × List (ℕ × ℕ)). GoesWith x (Group (2 * m) (numbered slot_of 1 p)) from (point_of k)) v.ends (o.through x end from v.rest v.way))
+      subst (λ (k : (ℕ × ℕ) × List (ℕ × ℕ)). GoesWith x (Group (2 * m) (numbered slot_of 1 p)) from (point_of k)) v.ends
+      (o.through x end from v.rest v.way))
       (either_way states x end m s one other from rest is w);
   course = o.course;
   below = λ k d b. let its = o.below k d b in omega (arith, its, l);
   takes = λ x end st rest least. ⊎_elim
       (λ (w : paths.Way states x end m s one st (length rest) (arrive states s st rest)).
-      absurd (none (record { text = x; end = end; pattern = m; position = (arrive states one (chosen s st) w.rest).1.at }) (length w.rest) st.at refl
+      absurd (none (record { subject = x; end = end; pattern = m; position = (arrive states one (chosen s st) w.rest).1.at }) (length w.rest) st.at refl
       (path_ends states x end m one (chosen s st) w.rest w.least.path)))
       (λ (w : (HasPath states x end m one (chosen s st) → ⊥) × paths.Way states x end m s other st (length rest) (arrive states s st rest)).
       after_fork states x end m s other high o.course.course st (length rest) (arrive states s st rest) above o.below w.1
@@ -150,7 +155,8 @@ OrdersOne-next states slot_of high top s one other m p is above l o none = recor
 }
 
 pub OrdersSome-more : (states : List State) (slot_of : ℕ → ℕ → ℕ) (low high top s one other n : ℕ) (p : Pattern) (patterns : List Pattern)
-    → slice_get patterns n ≡ Some p → slice_get states s ≡ Some (Fork one other) → low ≤ high → high ≤ s → high ≤ top → Begins states one (IsOfOne n p)
+    → slice_get patterns n ≡ Some p → slice_get states s ≡ Some (Fork one other) → low ≤ high → high ≤ s → high ≤ top
+    → Begins states one (IsOfOne n p)
     → Begins states other (IsOfSome (n + 1) patterns) → OrdersOne states (slot_of n) high one n p
     → OrdersSome states slot_of low other (n + 1) patterns → OrdersSome states slot_of top s n patterns
 OrdersSome-more states slot_of low high top s one other n p patterns at is lh hs ht b c o all m q from its = ⊎_elim

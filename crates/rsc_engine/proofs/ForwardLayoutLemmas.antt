@@ -106,7 +106,8 @@ module _ (e : Search) (classes : List ℕ) where
 
   pub each-first : (rows : List PassRow) (k : ℕ) (begins : Bool) (before : Option ℕ) (list : List ℕ) → before ≡ byte_before e.haystack e.start
       → IsPassRow classes rows k false e.mode begins None before list
-      → (begins ≡ true → e.mode ≡ No) → (begins ≡ false → ¬ (e.mode ≡ No)) → list ≡ e.start_state ∷ [] → StandsInEach e classes rows k e.start None
+      → (begins ≡ true → e.mode ≡ No) → (begins ≡ false → ¬ (e.mode ≡ No)) → list ≡ e.start_state ∷ []
+      → StandsInEach e classes rows k e.start None
   each-first rows k begins before list is r free anchored one = λ t past high.
       stands-first (search_up_to e t) classes rows k e.start begins before list is r (going-first (search_up_to e t) begins list free anchored one)
 

@@ -60,7 +60,8 @@ run-before e p run there leads r = record { places = places; steps = steps }
 pub last-before : (p : ℕ × ℕ) (run : List (ℕ × ℕ)) → 0 < length run → last_of (p ∷ run) ≡ last_of run
 last-before p run some = let same : length (p ∷ run) - 1 ≡ suc (length run - 1) = omega (arith, some) in ap (λ (k : ℕ). place (p ∷ run) k) same
 
-pub match-before : (e : Search) (p q : ℕ × ℕ) (run : List (ℕ × ℕ)) → IsPlace e p → Leads e p q → IsMatchRun e q run → IsMatchRun e p (p ∷ run)
+pub match-before : (e : Search) (p q : ℕ × ℕ) (run : List (ℕ × ℕ)) → IsPlace e p → Leads e p q → IsMatchRun e q run
+    → IsMatchRun e p (p ∷ run)
 match-before e p q run there leads m = record {
   is_run = run-before e p run there (λ _. subst (λ (r : ℕ × ℕ). Leads e p r) (sym m.begins) leads) m.is_run;
   some = omega (arith, m.some);
@@ -93,7 +94,8 @@ avoids-one i seen p fresh (suc k) l h = absurd (omega (arith, l))
 
 -- ---- what is left of a run
 
-pub match-drop : (e : Search) (from : ℕ × ℕ) (run : List (ℕ × ℕ)) (n : ℕ) → IsMatchRun e from run → n < length run → IsMatchRun e (place run n) (drop n run)
+pub match-drop : (e : Search) (from : ℕ × ℕ) (run : List (ℕ × ℕ)) (n : ℕ) → IsMatchRun e from run → n < length run
+    → IsMatchRun e (place run n) (drop n run)
 match-drop e from run n m l = record {
   is_run = record {
     places = λ k h. rw (get_or-drop n run k (0, 0)) (m.is_run.places (n + k) (omega (arith, h, length-drop n run)));
@@ -138,7 +140,8 @@ Avoids-drop i seen run n a k l h =
     let same : place (drop n run) k ≡ place run (n + k) = get_or-drop n run k (0, 0) in
     ap (λ (q : ℕ × ℕ). seen q.0) same ∙ a (n + k) (omega (arith, l, length-drop n run)) (sym (ap (λ (q : ℕ × ℕ). q.1) same) ∙ h)
 
-pub unseen-drop : (e : Search) (i : ℕ) (seen : ℕ → Bool) (s t : ℕ) (run : List (ℕ × ℕ)) (n : ℕ) → IsUnseenMatch e i seen s run → n < length run
+pub unseen-drop : (e : Search) (i : ℕ) (seen : ℕ → Bool) (s t : ℕ) (run : List (ℕ × ℕ)) (n : ℕ) → IsUnseenMatch e i seen s run
+    → n < length run
     → place run n ≡ (t, i) → IsUnseenMatch e i seen t (drop n run)
 unseen-drop e i seen s t run n m l here = record {
   is_match = subst (λ (q : ℕ × ℕ). IsMatchRun e q (drop n run)) here (match-drop e (s, i) run n m.is_match l);
@@ -176,7 +179,8 @@ pub best-step : (e : Search) (i : ℕ) (seen : ℕ → Bool) (s j : ℕ) (after 
     → IsUnseenMatch e i seen s ((s, i) ∷ run) → IsOnce ((s, i) ∷ run)
     → ((other : List (ℕ × ℕ)) → IsUnseenMatch e i seen s other → IsOnce other → 1 < length other → place other 1 ≡ (t, j)
     → IsUnseenMatch e j after t (drop 1 other))
-    → ((other : List (ℕ × ℕ)) (a b : ℕ) → IsUnseenMatch e i seen s other → IsOnce other → 1 < length other → slice_get e.states s ≡ Some (Fork a b)
+    → ((other : List (ℕ × ℕ)) (a b : ℕ) → IsUnseenMatch e i seen s other → IsOnce other → 1 < length other
+    → slice_get e.states s ≡ Some (Fork a b)
     → (place other 1).0 ≡ a → ¬ (t ≡ a) → ⊥)
     → IsBest e j after t run → IsBest e i seen s ((s, i) ∷ run)
 best-step e i seen s j after t run front once tail barred best = record {
@@ -204,7 +208,8 @@ best-step e i seen s j after t run front once tail barred best = record {
 
 -- ---- a step with no byte
 
-pub open-before : (e : Search) (i : ℕ) (seen after : ℕ → Bool) (s t : ℕ) (run : List (ℕ × ℕ)) → IsMore seen s after → seen s ≡ false → IsPlace e (s, i)
+pub open-before : (e : Search) (i : ℕ) (seen after : ℕ → Bool) (s t : ℕ) (run : List (ℕ × ℕ)) → IsMore seen s after → seen s ≡ false
+    → IsPlace e (s, i)
     → Leads e (s, i) (t, i) → IsUnseenMatch e i after t run → IsUnseenMatch e i seen s ((s, i) ∷ run)
 open-before e i seen after s t run g fresh there leads m = record {
   is_match = match-before e (s, i) (t, i) run there leads m.is_match;
@@ -220,7 +225,8 @@ apart-after : (e : Search) (i : ℕ) (seen after : ℕ → Bool) (s t : ℕ) (ru
 apart-after e i seen after s t run g m k l same =
     true≢false (sym g.new ∙ sym (ap (λ (q : ℕ × ℕ). after q.0) same) ∙ m.avoids k l (ap (λ (q : ℕ × ℕ). q.1) same))
 
-pub unseen-tail : (e : Search) (i : ℕ) (seen after : ℕ → Bool) (s t : ℕ) (other : List (ℕ × ℕ)) → IsMore seen s after → IsUnseenMatch e i seen s other
+pub unseen-tail : (e : Search) (i : ℕ) (seen after : ℕ → Bool) (s t : ℕ) (other : List (ℕ × ℕ)) → IsMore seen s after
+    → IsUnseenMatch e i seen s other
     → IsOnce other → 1 < length other → place other 1 ≡ (t, i) → IsUnseenMatch e i after t (drop 1 other)
 unseen-tail e i seen after s t other g m once more second = record {
   is_match = subst (λ (q : ℕ × ℕ). IsMatchRun e q (drop 1 other)) second (match-drop e (s, i) other 1 m.is_match more);
@@ -238,7 +244,8 @@ unseen-tail e i seen after s t other g m once more second = record {
         (λ (was : seen (place other (1 + k)).0 ≡ true). true≢false (sym was ∙ m.avoids (1 + k) within at))
         (g.only (place other (1 + k)).0 is))
 
-pub best-before : (e : Search) (i : ℕ) (seen after : ℕ → Bool) (s t : ℕ) (run : List (ℕ × ℕ)) → IsMore seen s after → seen s ≡ false → IsPlace e (s, i)
+pub best-before : (e : Search) (i : ℕ) (seen after : ℕ → Bool) (s t : ℕ) (run : List (ℕ × ℕ)) → IsMore seen s after → seen s ≡ false
+    → IsPlace e (s, i)
     → Leads e (s, i) (t, i) → ((q : ℕ × ℕ) → Leads e (s, i) q → q.1 ≡ i)
     → ((a b : ℕ) → slice_get e.states s ≡ Some (Fork a b) → ¬ (t ≡ a) → IsHopeless e i after a)
     → IsBest e i after t run → IsBest e i seen s ((s, i) ∷ run)
@@ -303,7 +310,8 @@ hopeless-before e i seen after s g rejected steps run m = go (length run) run (o
 
 -- ---- a step over a byte
 
-pub best-over : (e : Search) (i : ℕ) (seen : ℕ → Bool) (s t : ℕ) (run : List (ℕ × ℕ)) → seen s ≡ false → IsPlace e (s, i) → Leads e (s, i) (t, i + 1)
+pub best-over : (e : Search) (i : ℕ) (seen : ℕ → Bool) (s t : ℕ) (run : List (ℕ × ℕ)) → seen s ≡ false → IsPlace e (s, i)
+    → Leads e (s, i) (t, i + 1)
     → ((a b : ℕ) → slice_get e.states s ≡ Some (Fork a b) → ⊥) → IsBest e (i + 1) unseen t run → IsBest e i seen s ((s, i) ∷ run)
 best-over e i seen s t run fresh there leads no_fork best =
     best-step e i seen s (i + 1) unseen t run

@@ -10,7 +10,7 @@ use Rattle.rsc_captures.specs.Groups.{GroupLists, group_count, slot_of}
 use Rattle.rsc_captures.specs.Captured.{Captured, first_slot, group_span}
 use Rattle.rsc_engine.specs.Searches.{Search, Compiled, search_in}
 use Rattle.rsc_engine.specs.Runs.{IsMatchRun, IsMatchOf, AreRecords}
-use Rattle.rsc_engine.specs.Preferred.{IsOf}
+use Rattle.rsc_engine.specs.Preferred.{IsMatchWithRecords}
 use Rattle.rsc_engine.specs.Patterns.{Pattern, subject_of, Recognizes}
 use Rattle.rsc_engine.specs.PatternOrder.{RecordsWays}
 use Rattle.rsc_engine.specs.GroupEnds.{RecordsEnds}
@@ -29,7 +29,8 @@ RecordsEnds-built chars program patterns r ways same = record {
       let its = (r.exactly input found).0 (record { run = run; is_match = m; makes = f }) in
       let w = ways.way input run found its.pattern m f its.its in
       w.2 slot
-      ∙ whole-others (subject_of (search_in chars program input)) program.automaton.groups found.pattern its.pattern found.span.start found.span.end slot w.0 l
+      ∙ whole-others
+      (subject_of (search_in chars program input)) program.automaton.groups found.pattern its.pattern found.span.start found.span.end slot w.0 l
       first second w.1;
 }
   where
@@ -78,7 +79,7 @@ ends-records chars program input p from j slots r x few hold s l = hold s l ∙ 
 
 pub slot_holds : (e : Search) (run : List (ℕ × ℕ)) (captures : Captured) (found : Matched) (slot i : ℕ)
     → (IsMatchRun e (e.start_state, found.span.start) run → IsMatchOf e run found → recorded e.states run slot ≡ Some i)
-    → IsMatchRun e (e.start_state, (place run 0).1) run → IsOf e run found captures → slot < length captures.offsets
+    → IsMatchRun e (e.start_state, (place run 0).1) run → IsMatchWithRecords e run found captures → slot < length captures.offsets
     → slice_index_or captures.offsets slot None ≡ Some i
 slot_holds e run captures found slot i r m o l =
     o.records slot l ∙ r (subst (λ (at : ℕ). IsMatchRun e (e.start_state, at) run) (sym o.ends.start) m) o.ends

@@ -13,7 +13,8 @@ numbered-goes x slot_of n (Class ranges) = refl
 numbered-goes x slot_of n (Literal bytes) = refl
 numbered-goes x slot_of n (Assertion look) = refl
 numbered-goes x slot_of n (Then a b) =
-    ap (λ (R : ℕ → ℕ → Type 0). λ (i j : ℕ). (k : ℕ) × R i k × Goes x (numbered slot_of (n + count_groups a) b) k j) (numbered-goes x slot_of n a)
+    ap (λ (R : ℕ → ℕ → Type 0). λ (i j : ℕ). (k : ℕ) × R i k
+    × Goes x (numbered slot_of (n + count_groups a) b) k j) (numbered-goes x slot_of n a)
     ∙ ap (λ (R : ℕ → ℕ → Type 0). λ (i j : ℕ). (k : ℕ) × Goes x a i k × R k j) (numbered-goes x slot_of (n + count_groups a) b)
 numbered-goes x slot_of n (Either a b) =
     ap (λ (R : ℕ → ℕ → Type 0). λ (i j : ℕ). R i j ⊎ Goes x (numbered slot_of (n + count_groups a) b) i j) (numbered-goes x slot_of n a)
@@ -30,7 +31,8 @@ numbered-end x slot_of n (Literal bytes) = refl
 numbered-end x slot_of n (Assertion look) = refl
 numbered-end x slot_of n (Then a b) =
     ap (λ (F : (ℕ → Type 0) → ℕ → ℕ → Type 0). λ (Wanted : ℕ → Type 0) (i j : ℕ).
-    (k : ℕ) × F (HasEndIn Wanted (Goes x (numbered slot_of (n + count_groups a) b))) i k × IsFirstEnd x (numbered slot_of (n + count_groups a) b) Wanted k j)
+    (k : ℕ) × F (HasEndIn Wanted (Goes x (numbered slot_of (n + count_groups a) b))) i k
+    × IsFirstEnd x (numbered slot_of (n + count_groups a) b) Wanted k j)
     (numbered-end x slot_of n a)
     ∙ (ap (λ (R : ℕ → ℕ → Type 0). λ (Wanted : ℕ → Type 0) (i j : ℕ).
     (k : ℕ) × IsFirstEnd x a (HasEndIn Wanted R) i k × IsFirstEnd x (numbered slot_of (n + count_groups a) b) Wanted k j)

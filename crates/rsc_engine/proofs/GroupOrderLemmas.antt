@@ -13,7 +13,7 @@ use Rattle.rsc_captures.specs.Groups.{GroupLists, group_count, slot_number, slot
 use Rattle.rsc_captures.specs.Captured.{Captured, span_at, first_slot, group_span}
 use Rattle.rsc_engine.specs.Searches.{Search, Compiled, search_in}
 use Rattle.rsc_engine.specs.Runs.{IsMatchRun, IsMatchOf}
-use Rattle.rsc_engine.specs.Preferred.{IsOf}
+use Rattle.rsc_engine.specs.Preferred.{IsMatchWithRecords}
 use Rattle.rsc_engine.specs.Patterns.{Pattern, Empty, Never, Class, Literal, Assertion, Then, Either, Repeat, Group, Subject, subject_of, Recognizes}
 use Rattle.rsc_engine.specs.Ways.{Point, last_in, with_record, TimesWith, GoesWith}
 use Rattle.rsc_engine.specs.GroupNumbers.{count_groups, numbered}
@@ -73,12 +73,14 @@ ended Opens slot pair m is c = record {
       (cases_eq other pair);
 }
 
-times-closed : (Opens : ℕ → Type 0) (R : Point → Point → Type 0) → ((m k : Point) → IsClosedBut Opens m → R m k → IsClosedBut Opens k) → (t : ℕ) (m k : Point)
+times-closed : (Opens : ℕ → Type 0) (R : Point → Point → Type 0) → ((m k : Point) → IsClosedBut Opens m → R m k → IsClosedBut Opens k)
+    → (t : ℕ) (m k : Point)
     → IsClosedBut Opens m → TimesWith R t m k → IsClosedBut Opens k
 times-closed Opens R along zero m k c g = subst (IsClosedBut Opens) g c
 times-closed Opens R along (suc t) m k c g = times-closed Opens R along t g.0 k (along m g.0 c g.1) g.2
 
-closed-along : (f : ℕ → ℕ) → ((g : ℕ) → (h : ℕ) × (f g ≡ 2 * h)) → (x : Subject) (p : Pattern) (n : ℕ) (Opens : ℕ → Type 0) (m k : Point)
+closed-along : (f : ℕ → ℕ) → ((g : ℕ) → (h : ℕ) × (f g ≡ 2 * h))
+    → (x : Subject) (p : Pattern) (n : ℕ) (Opens : ℕ → Type 0) (m k : Point)
     → IsClosedBut Opens m → GoesWith x (numbered f n p) m k → IsClosedBut Opens k
 closed-along f even x Empty n Opens m k c g = subst (IsClosedBut Opens) g c
 closed-along f even x Never n Opens m k c g = absurd g
@@ -133,7 +135,7 @@ ClosesGroups-built chars program patterns r ways = record { closed = each }
 
 pub slots_in_order : (e : Search) (run : List (ℕ × ℕ)) (captures : Captured) (found : Matched) (pair i : ℕ)
     → (recorded e.states run (2 * pair) ≡ Some i → (j : ℕ) × (recorded e.states run (2 * pair + 1) ≡ Some j) × (i ≤ j))
-    → IsOf e run found captures → 2 * pair + 1 < length captures.offsets → slice_index_or captures.offsets (2 * pair) None ≡ Some i
+    → IsMatchWithRecords e run found captures → 2 * pair + 1 < length captures.offsets → slice_index_or captures.offsets (2 * pair) None ≡ Some i
     → (j : ℕ) × (slice_index_or captures.offsets (2 * pair + 1) None ≡ Some j) × (i ≤ j)
 slots_in_order e run captures found pair i closed o l from =
     let r = closed (sym (o.records (2 * pair) (omega (arith, l))) ∙ from) in
@@ -200,7 +202,8 @@ span_in_order c g span low high closed within e = at_pattern c.pattern e
         let two = first_of_pair c.groups q g s is in
         at_start two.0 (slice_index_or c.offsets (2 * two.0) None) refl (subst (λ (n : ℕ). span_at c.offsets n ≡ Some span) two.1 f)
 
-    at_pattern : (o : Option ℕ) → option_and_then (λ (q : ℕ). option_and_then (λ (s : ℕ). span_at c.offsets s) (first_slot c.groups q g)) o ≡ Some span
+    at_pattern : (o : Option ℕ)
+        → option_and_then (λ (q : ℕ). option_and_then (λ (s : ℕ). span_at c.offsets s) (first_slot c.groups q g)) o ≡ Some span
         → IsInOrder
     at_pattern None f = absurd (cc)
     at_pattern (Some q) f = at_slot q (first_slot c.groups q g) refl f

@@ -8,7 +8,7 @@ use Rattle.rsc_engine.specs.Patterns.{Then, Subject, Times, SomeTimes, Goes, may
 use Rattle.rsc_engine.specs.FirstEnds.{loops_take_bytes, HasEndIn}
 use Rattle.rsc_engine.specs.Ways.{Point}
 use Rattle.rsc_engine.specs.FirstWays.{AreFirstRounds, IsFirstWay}
-use Rattle.rsc_engine.specs.Courses.{Course, Skip, Dead, Byte, Here, After, Choose, Turn, Again, Within, Stand, further, chosen, noted, IsNew, Turns, SomeTurns, GoesNew, Reaches, FirstTurns, IsFirstNew}
+use Rattle.rsc_engine.specs.Courses.{Course, Skip, Dead, Byte, Here, After, Choose, Turn, Again, Within, Stand, further, chosen, noted, IsUnmade, Turns, SomeTurns, GoesOnce, Reaches, FirstTurns, IsFirstOnce}
 use Rattle.rsc_engine.specs.PreferredWays.{choices}
 use Rattle.rsc_engine.specs.WrittenLayout.{written}
 use Rattle.rsc_engine.specs.HeadsLayout.{Makes, MakesFirst, AreApart, AreNew, Leaves, IsFreshBefore}
@@ -24,7 +24,8 @@ made Skip v m = m
 made Dead v m = m
 made (Byte a b) v m = m
 made (Here look) v m = m
-made (After c d) v m = ⊎_elim (λ (a : MakesFirst c v). inl (made c v a)) (λ (b : (may_be_empty (written c) ≡ true) × MakesFirst d v). inr (made d v b.1)) m
+made (After c d) v m = ⊎_elim (λ (a : MakesFirst c v). inl (made c v a)) (λ (b : (may_be_empty (written c) ≡ true)
+    × MakesFirst d v). inr (made d v b.1)) m
 made (Choose w c d) v m = ⊎_elim
     (λ (e : w ≡ v). inl e)
     (λ (o : MakesFirst c v ⊎ MakesFirst d v).
@@ -115,7 +116,7 @@ abbrev Takes : Course → Type 0
 Takes c = loops_take_bytes (written c) ≡ true
 
 abbrev LeavesBy : Subject → Course → Type 0
-LeavesBy x c = (s t : Stand) → AreNew c s → GoesNew x c s t → Leaves c s t
+LeavesBy x c = (s t : Stand) → AreNew c s → GoesOnce x c s t → Leaves c s t
 
 -- a round leads to where another may begin
 round-before : (w : ℕ) (c : Course) (Given : ℕ → Type 0) (s t : Stand) → may_be_empty (written c) ≡ false → (Makes c w → ⊥)
@@ -137,7 +138,8 @@ turn-leaves w greedy c s k b = record {
   fresh = λ e v m. absurd (true≢false e);
 }
 
-again-leaves : (w : ℕ) (greedy : Bool) (c : Course) (s k : Stand) → (Makes c w → ⊥) → IsFreshBefore w c (Makes c) k → Leaves (Again w greedy c) s (chosen w k)
+again-leaves : (w : ℕ) (greedy : Bool) (c : Course) (s k : Stand) → (Makes c w → ⊥) → IsFreshBefore w c (Makes c) k
+    → Leaves (Again w greedy c) s (chosen w k)
 again-leaves w greedy c s k apart b = record {
   from = λ v m. ⊎_elim (λ (e : w ≡ v). inl (inl e)) (λ (a : Contains k.made v). inl (inr ((b v a).0))) (front w v k.made m);
   fresh = λ e v m f. ⊎_elim
@@ -181,7 +183,7 @@ before-new w c Given s b m = (b w m).1 refl
 
 -- rounds end by their choice
 turns-before : (x : Subject) (w : ℕ) (c : Course) (Given : ℕ → Type 0) → may_be_empty (written c) ≡ false → (Makes c w → ⊥)
-    → ((v : ℕ) → Makes c v → Given v) → LeavesBy x c → (n : ℕ) (s t : Stand) → IsFreshBefore w c Given s → Turns (GoesNew x c) w n s t
+    → ((v : ℕ) → Makes c v → Given v) → LeavesBy x c → (n : ℕ) (s t : Stand) → IsFreshBefore w c Given s → Turns (GoesOnce x c) w n s t
     → (k : Stand) × (t ≡ chosen w k) × IsFreshBefore w c Given k
 turns-before x w c Given takes apart given leave zero s t b g = (s, g.1, b)
 turns-before x w c Given takes apart given leave (suc n) s t b g =
@@ -213,7 +215,8 @@ after-leaves c d s k t apart l r = record { from = whence; fresh = new }
     before : (v : ℕ) → Contains t.made v → MakesFirst c v → may_be_empty (Then (written c) (written d)) ≡ false → ⊥
     before v m f e = ⊎_elim
         (λ (b : Makes d v). apart v (made c v f) b)
-        (λ (g : (may_be_empty (written d) ≡ true) × Contains k.made v). l.fresh (only_one (may_be_empty (written c)) (may_be_empty (written d)) e g.0) v g.1 f)
+        (λ (g : (may_be_empty (written d) ≡ true)
+        × Contains k.made v). l.fresh (only_one (may_be_empty (written c)) (may_be_empty (written d)) e g.0) v g.1 f)
         (r.from v m)
 
     new : may_be_empty (Then (written c) (written d)) ≡ false → (v : ℕ) → Contains t.made v
@@ -301,9 +304,9 @@ leaves x (After c d) h apart s t opens g =
 leaves x (Choose w c d) h apart s t opens g =
     let loops = both_are (loops_take_bytes (written c)) (loops_take_bytes (written d)) h in
     ⊎_elim
-    (λ (y : GoesNew x c (chosen w s) t).
+    (λ (y : GoesOnce x c (chosen w s) t).
     one-leaves w c d s t apart.3 apart.2 (leaves x c loops.0 apart.0 (chosen w s) t (opens-first w c d s apart.3 opens) y))
-    (λ (y : GoesNew x d (chosen w s) t).
+    (λ (y : GoesOnce x d (chosen w s) t).
     other-leaves w c d s t apart.4 apart.2 (leaves x d loops.1 apart.1 (chosen w s) t (opens-other w c d s apart.4 opens) y))
     g.1
 leaves x (Turn w greedy c) h apart s t opens g =
@@ -322,36 +325,37 @@ leaves x (Within slot c) h apart s t opens g =
 
 -- ---- where a course goes its pattern goes, and back
 
-turns-go : (R : Stand → Stand → Type 0) (S : ℕ → ℕ → Type 0) (w : ℕ) → ((s t : Stand) → R s t → S s.at t.at) → (n : ℕ) (s t : Stand) → Turns R w n s t
+turns-go : (R : Stand → Stand → Type 0) (S : ℕ → ℕ → Type 0) (w : ℕ) → ((s t : Stand) → R s t → S s.at t.at) → (n : ℕ) (s t : Stand)
+    → Turns R w n s t
     → Times S n s.at t.at
 turns-go R S w on zero s t g = ap (λ (k : Stand). k.at) (sym g.1)
 turns-go R S w on (suc n) s t g = (g.1.at, on (chosen w s) g.1 g.2, turns-go R S w on n g.1 t g.3)
 
-goes : (x : Subject) (c : Course) (s t : Stand) → GoesNew x c s t → Goes x (written c) s.at t.at
+goes : (x : Subject) (c : Course) (s t : Stand) → GoesOnce x c s t → Goes x (written c) s.at t.at
 goes x Skip s t g = ap (λ (k : Stand). k.at) g
 goes x Dead s t g = g
 goes x (Byte a b) s t g = (or_one (is_between a b (slice_get x.haystack s.at)) false g.0, ap (λ (k : Stand). k.at) g.1)
 goes x (Here look) s t g = (g.0, ap (λ (k : Stand). k.at) g.1)
 goes x (After c d) s t g = (g.0.at, goes x c s g.0 g.1, goes x d g.0 t g.2)
 goes x (Choose w c d) s t g = ⊎_elim
-    (λ (y : GoesNew x c (chosen w s) t). inl (goes x c (chosen w s) t y))
-    (λ (y : GoesNew x d (chosen w s) t). inr (goes x d (chosen w s) t y))
+    (λ (y : GoesOnce x c (chosen w s) t). inl (goes x c (chosen w s) t y))
+    (λ (y : GoesOnce x d (chosen w s) t). inr (goes x d (chosen w s) t y))
     g.1
-goes x (Turn w greedy c) s t g = (g.0, omega arith, tt, turns-go (GoesNew x c) (Goes x (written c)) w (goes x c) g.0 s t g.1)
+goes x (Turn w greedy c) s t g = (g.0, omega arith, tt, turns-go (GoesOnce x c) (Goes x (written c)) w (goes x c) g.0 s t g.1)
 goes x (Again w greedy c) s t g =
-    (suc g.2.0, omega arith, tt, (g.0.at, goes x c s g.0 g.1, turns-go (GoesNew x c) (Goes x (written c)) w (goes x c) g.2.0 g.0 t g.2.1))
+    (suc g.2.0, omega arith, tt, (g.0.at, goes x c s g.0 g.1, turns-go (GoesOnce x c) (Goes x (written c)) w (goes x c) g.2.0 g.0 t g.2.1))
 goes x (Within slot c) s t g = subst (λ (k : Stand). Goes x (written c) s.at k.at) (sym g.2) (goes x c (noted slot s) g.0 g.1)
 
 -- from a stand the course goes to one at the position
 abbrev HasGoing : Subject → Course → Stand → ℕ → Type 0
-HasGoing x c s j = (t : Stand) × GoesNew x c s t × (t.at ≡ j)
+HasGoing x c s j = (t : Stand) × GoesOnce x c s t × (t.at ≡ j)
 
 abbrev GoesBack : Subject → Course → Type 0
 GoesBack x c = (s : Stand) (j : ℕ) → AreNew c s → Goes x (written c) s.at j → HasGoing x c s j
 
 turns-back : (x : Subject) (w : ℕ) (c : Course) (Given : ℕ → Type 0) → may_be_empty (written c) ≡ false → (Makes c w → ⊥)
     → ((v : ℕ) → Makes c v → Given v) → LeavesBy x c → GoesBack x c → (n : ℕ) (s : Stand) (j : ℕ) → IsFreshBefore w c Given s
-    → Times (Goes x (written c)) n s.at j → (t : Stand) × Turns (GoesNew x c) w n s t × (t.at ≡ j)
+    → Times (Goes x (written c)) n s.at j → (t : Stand) × Turns (GoesOnce x c) w n s t × (t.at ≡ j)
 turns-back x w c Given takes apart given leave back zero s j b g = (chosen w s, (before-new w c Given s b, refl), g)
 turns-back x w c Given takes apart given leave back (suc n) s j b g =
     let opens = before-chosen w c Given s apart b in
@@ -360,7 +364,8 @@ turns-back x w c Given takes apart given leave back (suc n) s j b g =
     let rest = turns-back x w c Given takes apart given leave back n one.0 j next (subst (λ (i : ℕ). Times (Goes x (written c)) n i j) (sym one.2) g.2) in
     (rest.0, (before-new w c Given s b, one.0, one.1, rest.1), rest.2)
 
-again-back : (x : Subject) (w : ℕ) (greedy : Bool) (c : Course) → may_be_empty (written c) ≡ false → (Makes c w → ⊥) → LeavesBy x c → GoesBack x c
+again-back : (x : Subject) (w : ℕ) (greedy : Bool) (c : Course) → may_be_empty (written c) ≡ false → (Makes c w → ⊥) → LeavesBy x c
+    → GoesBack x c
     → (s : Stand) (j : ℕ) → AreNew c s → (n : ℕ) → 1 ≤ n → Times (Goes x (written c)) n s.at j → HasGoing x (Again w greedy c) s j
 again-back x w greedy c takes apart leave by s j opens zero l t = absurd (omega (arith, l))
 again-back x w greedy c takes apart leave by s j opens (suc n) l t =
@@ -383,7 +388,7 @@ back x (After c d) h apart s j opens g =
     (other.0, (one.0, one.1, other.1), other.2)
 back x (Choose w c d) h apart s j opens g =
     let loops = both_are (loops_take_bytes (written c)) (loops_take_bytes (written d)) h in
-    let new : IsNew w s = λ m. opens w (inl refl) m in
+    let new : IsUnmade w s = λ m. opens w (inl refl) m in
     ⊎_elim
     (λ (y : Goes x (written c) s.at j).
     let r = back x c loops.0 apart.0 (chosen w s) j (opens-first w c d s apart.3 opens) y in (r.0, (new, inl r.1), r.2))
@@ -412,7 +417,7 @@ Agrees c s Wanted Plain = (u : Stand) → Leaves c s u → (Wanted u → Plain u
 
 -- a first way of the course is one of its pattern
 abbrev IsPlain : Subject → Course → Type 1
-IsPlain x c = (Wanted : Stand → Type 0) (Plain : ℕ → Type 0) (s t : Stand) → AreNew c s → Agrees c s Wanted Plain → IsFirstNew x c Wanted s t
+IsPlain x c = (Wanted : Stand → Type 0) (Plain : ℕ → Type 0) (s t : Stand) → AreNew c s → Agrees c s Wanted Plain → IsFirstOnce x c Wanted s t
     → IsFirstWay x (written c) Plain (mark s) (mark t)
 
 -- what is known of a loop's part
@@ -428,20 +433,21 @@ record Round (x : Subject) (w : ℕ) (c : Course) (Given : ℕ → Type 0) : Typ
 abbrev AgreesAfter : ℕ → Course → (ℕ → Type 0) → (Stand → Type 0) → (ℕ → Type 0) → Type 0
 AgreesAfter w c Given Wanted Plain = (k : Stand) → IsFreshBefore w c Given k → (Wanted (chosen w k) → Plain k.at) × (Plain k.at → Wanted (chosen w k))
 
-module _ (x : Subject) (w : ℕ) (greedy : Bool) (c : Course) (Given : ℕ → Type 0) (r : Round x w c Given) (Wanted : Stand → Type 0) (Plain : ℕ → Type 0)
+module _ (x : Subject) (w : ℕ) (greedy : Bool) (c : Course) (Given : ℕ → Type 0) (r : Round x w c Given) (Wanted : Stand → Type 0)
+    (Plain : ℕ → Type 0)
     (agree : AgreesAfter w c Given Wanted Plain) where
   -- more rounds lead to where something is wanted
-  rounds-plain : (s : Stand) → IsFreshBefore w c Given s → Reaches Wanted (SomeTurns (GoesNew x c) w) s
+  rounds-plain : (s : Stand) → IsFreshBefore w c Given s → Reaches Wanted (SomeTurns (GoesOnce x c) w) s
       → HasEndIn Plain (SomeTimes (Goes x (written c)) 0 None) s.at
   rounds-plain s b e =
       let k = turns-before x w c Given r.takes r.apart r.given r.leave e.1.0 s e.0 b e.1.1 in (
         e.0.at,
-        (e.1.0, omega arith, tt, turns-go (GoesNew x c) (Goes x (written c)) w (goes x c) e.1.0 s e.0 e.1.1),
+        (e.1.0, omega arith, tt, turns-go (GoesOnce x c) (Goes x (written c)) w (goes x c) e.1.0 s e.0 e.1.1),
         subst (λ (z : Stand). Plain z.at) (sym k.1) ((agree k.0 k.2).0 (subst Wanted k.1 e.2)),
       )
 
   rounds-new : (s : Stand) (i : ℕ) → s.at ≡ i → IsFreshBefore w c Given s → HasEndIn Plain (SomeTimes (Goes x (written c)) 0 None) i
-      → Reaches Wanted (SomeTurns (GoesNew x c) w) s
+      → Reaches Wanted (SomeTurns (GoesOnce x c) w) s
   rounds-new s i at b e =
       let t = turns-back x w c Given r.takes r.apart r.given r.leave r.back e.1.0 s e.0 b
       (subst (λ (z : ℕ). Times (Goes x (written c)) e.1.0 z e.0) (sym at) e.1.3) in
@@ -451,12 +457,13 @@ module _ (x : Subject) (w : ℕ) (greedy : Bool) (c : Course) (Given : ℕ → T
         subst Wanted (sym k.1) ((agree k.0 k.2).1 (subst Plain (sym t.2 ∙ ap (λ (z : Stand). z.at) k.1) e.2)),
       )
 
-  rounds-agree : (s : Stand) → Agrees c (chosen w s) (Reaches Wanted (SomeTurns (GoesNew x c) w)) (HasEndIn Plain (SomeTimes (Goes x (written c)) 0 None))
+  rounds-agree : (s : Stand) → Agrees c (chosen w s) (Reaches Wanted (SomeTurns (GoesOnce x c) w)) (HasEndIn Plain (SomeTimes (Goes x (written c)) 0 None))
   rounds-agree s u l =
       let b = round-before w c Given (chosen w s) u r.takes r.apart r.given l in
       (λ e. rounds-plain u b e, λ e. rounds-new u u.at refl b e)
 
-  turns-plain : (n : ℕ) (s t : Stand) → IsFreshBefore w c Given s → FirstTurns (λ Such k l. IsFirstNew x c Such k l) (GoesNew x c) w greedy n Wanted s t
+  turns-plain : (n : ℕ) (s t : Stand) → IsFreshBefore w c Given s
+      → FirstTurns (λ Such k l. IsFirstOnce x c Such k l) (GoesOnce x c) w greedy n Wanted s t
       → AreFirstRounds (λ Such k l. IsFirstWay x (written c) Such k l) (Goes x (written c)) greedy n 0 None Plain (mark s) (mark t)
   turns-plain zero s t b f = (
     refl,
@@ -470,12 +477,12 @@ module _ (x : Subject) (w : ℕ) (greedy : Bool) (c : Course) (Given : ℕ → T
   )
   turns-plain (suc n) s t b f =
       let opens = before-chosen w c Given s r.apart b in
-      let g = new-goes x c (Reaches Wanted (SomeTurns (GoesNew x c) w)) (chosen w s) f.2 f.3 in
+      let g = new-goes x c (Reaches Wanted (SomeTurns (GoesOnce x c) w)) (chosen w s) f.2 f.3 in
       let next = round-before w c Given (chosen w s) f.2 r.takes r.apart r.given (r.leave (chosen w s) f.2 opens g.0) in (
         tt,
         λ e none p. f.1 e ((agree s b).1 p),
         mark f.2,
-        r.plain (Reaches Wanted (SomeTurns (GoesNew x c) w)) (HasEndIn Plain (SomeTimes (Goes x (written c)) 0 None)) (chosen w s) f.2 opens
+        r.plain (Reaches Wanted (SomeTurns (GoesOnce x c) w)) (HasEndIn Plain (SomeTimes (Goes x (written c)) 0 None)) (chosen w s) f.2 opens
             (rounds-agree s) f.3,
         turns-plain n f.2 t next f.4,
       )
@@ -500,7 +507,7 @@ module _ (x : Subject) (w : ℕ) (greedy : Bool) (c : Course) (takes : may_be_em
       tt,
       λ e none. absurd (omega (arith, none)),
       mark f.0,
-      part (Reaches Wanted (SomeTurns (GoesNew x c) w)) (HasEndIn Plain (SomeTimes (Goes x (written c)) 0 None)) s f.0 opens both f.1,
+      part (Reaches Wanted (SomeTurns (GoesOnce x c) w)) (HasEndIn Plain (SomeTimes (Goes x (written c)) 0 None)) s f.0 opens both f.1,
       turns-plain x w greedy c (Makes c) round Wanted Plain after f.2 f.0 t (before f.0 here) f.3,
     ),
   )
@@ -512,9 +519,9 @@ module _ (x : Subject) (w : ℕ) (greedy : Bool) (c : Course) (takes : may_be_em
       before u l = round-before w c (Makes c) s u takes apart (λ v a. a) l
 
       here : Leaves c s f.0
-      here = leave s f.0 opens ((new-goes x c (Reaches Wanted (SomeTurns (GoesNew x c) w)) s f.0 f.1).0)
+      here = leave s f.0 opens ((new-goes x c (Reaches Wanted (SomeTurns (GoesOnce x c) w)) s f.0 f.1).0)
 
-      both : Agrees c s (Reaches Wanted (SomeTurns (GoesNew x c) w)) (HasEndIn Plain (SomeTimes (Goes x (written c)) 0 None))
+      both : Agrees c s (Reaches Wanted (SomeTurns (GoesOnce x c) w)) (HasEndIn Plain (SomeTimes (Goes x (written c)) 0 None))
       both u l = (
         λ e. rounds-plain x w greedy c (Makes c) round Wanted Plain after u (before u l) e,
         λ e. rounds-new x w greedy c (Makes c) round Wanted Plain after u u.at refl (before u l) e,
@@ -535,7 +542,7 @@ plain x (Here look) h apart Wanted Plain s t opens agree f = (
 )
 plain x (After c d) h apart Wanted Plain s t opens agree f = (
   mark f.0,
-  plain x c loops.0 apart.0 (Reaches Wanted (GoesNew x d)) (HasEndIn Plain (Goes x (written d))) s f.0 (opens-left c d s opens) both f.1,
+  plain x c loops.0 apart.0 (Reaches Wanted (GoesOnce x d)) (HasEndIn Plain (Goes x (written d))) s f.0 (opens-left c d s opens) both f.1,
   plain x d loops.1 apart.1 Wanted Plain f.0 t (opens-right c d s f.0 apart.2 opens here)
       (λ u l. agree u (after-leaves c d s f.0 u apart.2 here l)) f.2,
 )
@@ -544,9 +551,9 @@ plain x (After c d) h apart Wanted Plain s t opens agree f = (
     loops = both_are (loops_take_bytes (written c)) (loops_take_bytes (written d)) h
 
     here : Leaves c s f.0
-    here = leaves x c loops.0 apart.0 s f.0 (opens-left c d s opens) ((new-goes x c (Reaches Wanted (GoesNew x d)) s f.0 f.1).0)
+    here = leaves x c loops.0 apart.0 s f.0 (opens-left c d s opens) ((new-goes x c (Reaches Wanted (GoesOnce x d)) s f.0 f.1).0)
 
-    both : Agrees c s (Reaches Wanted (GoesNew x d)) (HasEndIn Plain (Goes x (written d)))
+    both : Agrees c s (Reaches Wanted (GoesOnce x d)) (HasEndIn Plain (Goes x (written d)))
     both u l =
         let on = opens-right c d s u apart.2 opens l in (
           λ e. (e.0.at, goes x d u e.0 e.1, (agree e.0 (after-leaves c d s u e.0 apart.2 l (leaves x d loops.1 apart.1 u e.0 on e.1))).0 e.2),
@@ -558,8 +565,8 @@ plain x (After c d) h apart Wanted Plain s t opens agree f = (
               ),
         )
 plain x (Choose w c d) h apart Wanted Plain s t opens agree f = ⊎_elim
-    (λ (y : IsFirstNew x c Wanted (chosen w s) t). inl (plain x c loops.0 apart.0 Wanted Plain (chosen w s) t one-opens one y))
-    (λ (y : (Reaches Wanted (GoesNew x c) (chosen w s) → ⊥) × IsFirstNew x d Wanted (chosen w s) t).
+    (λ (y : IsFirstOnce x c Wanted (chosen w s) t). inl (plain x c loops.0 apart.0 Wanted Plain (chosen w s) t one-opens one y))
+    (λ (y : (Reaches Wanted (GoesOnce x c) (chosen w s) → ⊥) × IsFirstOnce x d Wanted (chosen w s) t).
     inr (λ e. y.0 (reached e), plain x d loops.1 apart.1 Wanted Plain (chosen w s) t other-opens other y.1))
     f.1
   where
@@ -578,7 +585,7 @@ plain x (Choose w c d) h apart Wanted Plain s t opens agree f = ⊎_elim
     other : Agrees d (chosen w s) Wanted Plain
     other u l = agree u (other-leaves w c d s u apart.4 apart.2 l)
 
-    reached : HasEndIn Plain (Goes x (written c)) s.at → Reaches Wanted (GoesNew x c) (chosen w s)
+    reached : HasEndIn Plain (Goes x (written c)) s.at → Reaches Wanted (GoesOnce x c) (chosen w s)
     reached e =
         let r = back x c loops.0 apart.0 (chosen w s) e.0 one-opens e.1 in
         (r.0, r.1, (one r.0 (leaves x c loops.0 apart.0 (chosen w s) r.0 one-opens r.1)).1 (subst Plain (sym r.2) e.2))

@@ -136,11 +136,11 @@ with_false : (b : Bool) (A B C D : Type 0) → b ≡ false → (B → D) → Mat
 with_false true A B C D e f x = absurd (true≢false e)
 with_false false A B C D e f x = f x
 
-Holds-plain : (l : Look) (t : ℕ) (W : ℕ → Bool) (h k : List ℕ) (i j : ℕ) → is_unicode l ≡ false → byte_before h i ≡ byte_before k j
-    → byte_after h i ≡ byte_after k j → Holds l t W h i → Holds l t W k j
-Holds-plain l t W h k i j plain before after x =
-    with_false (is_unicode l) (HoldsAtSides l W h i) (IsTrue (holds_at_bytes l t (byte_before h i) (byte_after h i)))
-    (HoldsAtSides l W k j) (IsTrue (holds_at_bytes l t (byte_before k j) (byte_after k j))) plain
+Holds-plain : (l : Look) (t : ℕ) (chars : ℕ → Bool) (h k : List ℕ) (i j : ℕ) → is_unicode l ≡ false → byte_before h i ≡ byte_before k j
+    → byte_after h i ≡ byte_after k j → Holds l t chars h i → Holds l t chars k j
+Holds-plain l t chars h k i j plain before after x =
+    with_false (is_unicode l) (HoldsAtSides l chars h i) (IsTrue (holds_at_bytes l t (byte_before h i) (byte_after h i)))
+    (HoldsAtSides l chars k j) (IsTrue (holds_at_bytes l t (byte_before k j) (byte_after k j))) plain
     (λ (y : IsTrue (holds_at_bytes l t (byte_before h i) (byte_after h i))).
     subst (λ (p : Option ℕ). IsTrue (holds_at_bytes l t p (byte_after k j))) before
     (subst (λ (n : Option ℕ). IsTrue (holds_at_bytes l t (byte_before h i) n)) after y)) x
@@ -166,26 +166,30 @@ ascii_of-bytes WordStartHalfUnicode = refl
 ascii_of-bytes WordEndHalfUnicode = refl
 
 -- with no byte, between two haystacks in which an assertion that holds in the first holds in the second
-StepsTo-stay : (state : State) (t : ℕ) (W : ℕ → Bool) (h k : List ℕ) (end last i j u : ℕ) → ((l : Look) → Holds l t W h i → Holds l t W k j)
-    → StepsTo state t W h end i (u, i) → StepsTo state t W k last j (u, j)
-StepsTo-stay (ByteRange a b next) t W h k end last i j u holds x = absurd (omega (arith, x.3))
-StepsTo-stay (Assert l next) t W h k end last i j u holds x = (holds l x.0, x.1, refl)
-StepsTo-stay (Fork a b) t W h k end last i j u holds x = (x.0, refl)
-StepsTo-stay (Capture slot next) t W h k end last i j u holds x = (x.0, refl)
-StepsTo-stay (Accept p) t W h k end last i j u holds x = x
+StepsTo-stay : (state : State) (t : ℕ) (chars : ℕ → Bool) (h k : List ℕ) (end last i j u : ℕ)
+    → ((l : Look) → Holds l t chars h i → Holds l t chars k j)
+    → StepsTo state t chars h end i (u, i) → StepsTo state t chars k last j (u, j)
+StepsTo-stay (ByteRange a b next) t chars h k end last i j u holds x = absurd (omega (arith, x.3))
+StepsTo-stay (Assert l next) t chars h k end last i j u holds x = (holds l x.0, x.1, refl)
+StepsTo-stay (Fork a b) t chars h k end last i j u holds x = (x.0, refl)
+StepsTo-stay (Capture slot next) t chars h k end last i j u holds x = (x.0, refl)
+StepsTo-stay (Accept p) t chars h k end last i j u holds x = x
 
-IsStep-stay : (states : List State) (t : ℕ) (W : ℕ → Bool) (h k : List ℕ) (end last i j s u : ℕ) → ((l : Look) → Holds l t W h i → Holds l t W k j)
-    → IsStep states t W h end (s, i) (u, i) → IsStep states t W k last (s, j) (u, j)
-IsStep-stay states t W h k end last i j s u holds x = go (slice_get states s) x
+IsStep-stay : (states : List State) (t : ℕ) (chars : ℕ → Bool) (h k : List ℕ) (end last i j s u : ℕ)
+    → ((l : Look) → Holds l t chars h i → Holds l t chars k j)
+    → IsStep states t chars h end (s, i) (u, i) → IsStep states t chars k last (s, j) (u, j)
+IsStep-stay states t chars h k end last i j s u holds x = go (slice_get states s) x
   where
-    go : (o : Option State) → MatchOption o ⊥ (λ state. StepsTo state t W h end i (u, i)) → MatchOption o ⊥ (λ state. StepsTo state t W k last j (u, j))
+    go : (o : Option State) → MatchOption o ⊥ (λ state. StepsTo state t chars h end i (u, i))
+        → MatchOption o ⊥ (λ state. StepsTo state t chars k last j (u, j))
     go None y = y
-    go (Some state) y = StepsTo-stay state t W h k end last i j u holds y
+    go (Some state) y = StepsTo-stay state t chars h k end last i j u holds y
 
 -- ---- a step goes by the two neighbours, and by their classes
 
 module _ (w : Lawful) (classes : List ℕ) (m : Machine) (width : ℕ) (unicode : Bool) (plan : IsPlan m classes width unicode) where
-  stays : (h k : List ℕ) (end last i j s u : ℕ) → i ≤ length h → j ≤ length k → byte_before h i ≡ byte_before k j → byte_after h i ≡ byte_after k j
+  stays : (h k : List ℕ) (end last i j s u : ℕ) → i ≤ length h → j ≤ length k → byte_before h i ≡ byte_before k j
+      → byte_after h i ≡ byte_after k j
       → IsPlainUnit m (byte_before h i) → IsPlainUnit m (byte_after h i)
       → IsStep m.states m.terminator m.word_chars h end (s, i) (u, i) → IsStep m.states m.terminator m.word_chars k last (s, j) (u, j)
   stays h k end last i j s u low within before after a b x = go (has_unicode m.states) refl
@@ -298,7 +302,8 @@ some_at classes [] i l a = omega (arith, l)
 some_at classes (x ∷ h) zero l a = a
 some_at classes (x ∷ h) (suc i) l a = some_at classes h i (omega (arith, l)) a
 
-moves_kept : Lawful → (classes : List ℕ) (m : Machine) (width : ℕ) (unicode : Bool) → IsPlan m classes width unicode → (h k : List ℕ) (x y s u : ℕ)
+moves_kept : Lawful → (classes : List ℕ) (m : Machine) (width : ℕ) (unicode : Bool) → IsPlan m classes width unicode
+    → (h k : List ℕ) (x y s u : ℕ)
     → x < length h → y < length k → Alike classes (byte_after h x) (byte_after k y) → IsPlainUnit m (byte_after h x) → IsPlainUnit m (byte_after k y)
     → Moves m h x s u → Moves m k y s u
 moves_kept w classes m width unicode plan h k x y s u in_h in_k a pn po step =

@@ -12,8 +12,8 @@ use Rattle.rsc_search.specs.declared.anchored.Anchored.TheVariants.{No}
 use Rattle.rsc_engine.specs.Searches.{Search}
 use Rattle.rsc_engine.specs.Runs.{IsMatchRun, is_accepting}
 use Rattle.rsc_captures.specs.Captured.{Captured}
-use Rattle.rsc_engine.specs.Preferred.{IsFirstMatch, MayBegin, HasNone}
-use Rattle.rsc_engine.specs.NextMatches.{MayBeNext, IsEmpty, IsRepeated, IsSplitAt, IsPassed, IsOver, IsNextMatch}
+use Rattle.rsc_engine.specs.Preferred.{IsFirstMatch, MayBegin, HasNoFirstMatch}
+use Rattle.rsc_engine.specs.NextMatches.{MayBeNext, IsEmpty, IsRepeatAt, IsSplitAt, IsLeftOutAt, IsOver, IsNextMatch}
 use Rattle.rsc_engine.specs.Ends.{IsMatchEnd, IsEarliestEnd}
 use Rattle.rsc_engine.proofs.PatternsLemmas.{goes-forward, goes-takes, takes-at}
 
@@ -35,7 +35,7 @@ none_before e patterns captures found other both f l m =
     f.is_first.leftmost other.span.start m.start (omega (arith, l, f.is_of.ends.start)) r.run r.is_match
 
 pub none_at_all : (e : Search) (patterns : List Pattern) (other : Matched) → ((other : Matched) → HasRunOf e other ↔ IsMatchIn patterns e other)
-    → HasNone e → MayBegin e other.span.start → IsMatchIn patterns e other → ⊥
+    → HasNoFirstMatch e → MayBegin e other.span.start → IsMatchIn patterns e other → ⊥
 none_at_all e patterns other both none begins m =
     let r = (both other).1 m in
     none other.span.start begins r.run r.is_match
@@ -51,8 +51,8 @@ next_is_in e patterns last captures found both f = (both found).0 (record {
 })
 
 pub why_passed : (e : Search) (patterns : List Pattern) (last : Option ℕ) (other : Matched)
-    → ((other : Matched) → HasRunOf e other ↔ IsMatchIn patterns e other) → IsPassed e last other.span.start → IsMatchIn patterns e other
-    → IsRepeated e last other.span.start ⊎ IsSplitAt e other.span.start
+    → ((other : Matched) → HasRunOf e other ↔ IsMatchIn patterns e other) → IsLeftOutAt e last other.span.start → IsMatchIn patterns e other
+    → IsRepeatAt e last other.span.start ⊎ IsSplitAt e other.span.start
 why_passed e patterns last other both passed m =
     let r = (both other).1 m in
     ⊎_elim (λ none. absurd (none r.run r.is_match)) (λ why. why) passed
@@ -86,7 +86,8 @@ end_is_in e patterns i both x =
       refl,
     )
 
-pub none_ends_before : (e : Search) (patterns : List Pattern) (i : ℕ) (other : Matched) → ((other : Matched) → HasRunOf e other ↔ IsMatchIn patterns e other)
+pub none_ends_before : (e : Search) (patterns : List Pattern) (i : ℕ) (other : Matched)
+    → ((other : Matched) → HasRunOf e other ↔ IsMatchIn patterns e other)
     → IsEarliestEnd e i → MayBegin e other.span.start → other.span.end < i → IsMatchIn patterns e other → ⊥
 none_ends_before e patterns i other both h begins l m =
     let r = (both other).1 m in
@@ -95,7 +96,8 @@ none_ends_before e patterns i other both h begins l m =
 -- ---- side by side
 
 -- where no pattern may be empty, no match run is
-not_empty : (e : Search) (patterns : List Pattern) (at : ℕ) (run : List (ℕ × ℕ)) → ((other : Matched) → HasRunOf e other ↔ IsMatchIn patterns e other)
+not_empty : (e : Search) (patterns : List Pattern) (at : ℕ) (run : List (ℕ × ℕ))
+    → ((other : Matched) → HasRunOf e other ↔ IsMatchIn patterns e other)
     → list_any may_be_empty patterns ≡ false → IsMatchRun e (e.start_state, at) run → IsEmpty run → ⊥
 not_empty e patterns at run both none m empty =
     let begins : (place run 0).1 ≡ at = ap (λ (p : ℕ × ℕ). p.1) m.begins in
@@ -117,12 +119,13 @@ next_at_start e patterns last captures found both none anchored f =
     (cases_lt e.start (place f.run 0).1)
 
 -- so a position from which one matches isn't passed
-not_passed : (e : Search) (patterns : List Pattern) (last : Option ℕ) (other : Matched) → ((other : Matched) → HasRunOf e other ↔ IsMatchIn patterns e other)
-    → list_any may_be_empty patterns ≡ false → IsPassed e last other.span.start → IsMatchIn patterns e other → ⊥
+not_passed : (e : Search) (patterns : List Pattern) (last : Option ℕ) (other : Matched)
+    → ((other : Matched) → HasRunOf e other ↔ IsMatchIn patterns e other)
+    → list_any may_be_empty patterns ≡ false → IsLeftOutAt e last other.span.start → IsMatchIn patterns e other → ⊥
 not_passed e patterns last other both none passed m = ⊎_elim
     (λ no. let r = (both other).1 m in no r.run r.is_match)
     (λ why. ⊎_elim
-    (λ (x : IsRepeated e last other.span.start). not_empty e patterns other.span.start x.run both none x.preferred.is_match x.repeats.empty)
+    (λ (x : IsRepeatAt e last other.span.start). not_empty e patterns other.span.start x.run both none x.preferred.is_match x.repeats.empty)
     (λ (x : IsSplitAt e other.span.start). not_empty e patterns other.span.start x.run both none x.preferred.is_match x.splits.empty)
     why)
     passed
@@ -140,7 +143,8 @@ none_at_start e patterns last other both none over same m =
     (record { start = m.start; end = its_start e patterns other m; anchored = λ a earlier l h. absurd (omega (arith, l, h, same)) })) m
 
 -- in a search that isn't anchored each position of the span is open
-free : (e : Search) (patterns : List Pattern) (last : Option ℕ) (other : Matched) → e.mode ≡ No → IsMatchIn patterns e other → MayBeNext e last other.span.start
+free : (e : Search) (patterns : List Pattern) (last : Option ℕ) (other : Matched) → e.mode ≡ No → IsMatchIn patterns e other
+    → MayBeNext e last other.span.start
 free e patterns last other unanchored m = record { start = m.start; end = its_start e patterns other m; anchored = λ a. absurd (a unanchored) }
 
 pub none_between : (e : Search) (patterns : List Pattern) (last : Option ℕ) (captures : Captured) (found other : Matched)
@@ -148,7 +152,7 @@ pub none_between : (e : Search) (patterns : List Pattern) (last : Option ℕ) (c
     → IsNextMatch e last captures found → other.span.start < found.span.start → IsMatchIn patterns e other → ⊥
 none_between e patterns last captures found other both none unanchored f l m =
     not_passed e patterns last other both none
-    (f.is_next.passed other.span.start (omega (arith, l, f.is_of.ends.start)) (free e patterns last other unanchored m)) m
+    (f.is_next.left_out other.span.start (omega (arith, l, f.is_of.ends.start)) (free e patterns last other unanchored m)) m
 
 pub none_after_all : (e : Search) (patterns : List Pattern) (last : Option ℕ) (other : Matched)
     → ((other : Matched) → HasRunOf e other ↔ IsMatchIn patterns e other) → list_any may_be_empty patterns ≡ false → e.mode ≡ No → IsOver e last

@@ -29,12 +29,12 @@ pub mod LinesLemmas  -- which lines lie where, and in which no match is
 pub mod LinksLayoutLemmas  -- how single states lead on, and what follows for parts made of parts
 pub mod LogLayoutLemmas  -- the log of the backward pass, from row to row
 pub mod LoopsLemmas  -- how lists of states grow by repetitions
-pub mod NamesLayoutLemmas  -- what the states of parts name that are made of parts, and which assertions they have
+pub mod StatesLayoutLemmas  -- what the states of parts name that are made of parts, and which assertions they have
 pub mod NeededLayoutLemmas  -- no match is where no byte of the one range is directly after one of the other
 pub mod NextMatchesLemmas  -- which match is next, as the search's start moves on
 pub mod OnePatternLemmas  -- the matches of a program of one pattern, by the pattern alone
-pub mod OrderedLayoutLemmas  -- a look at a list beside a small haystack is one at each position for which the small haystack stands
-pub mod OrderedLemmas  -- a look at a list, as its stack goes down
+pub mod OrderedLayoutLemmas  -- a scan of a list beside a small haystack is one at each position for which the small haystack stands
+pub mod OrderedLemmas  -- a scan of a list, as its stack goes down
 pub mod PartsLemmas  -- what holds for parts in order, or for one of them, as the list grows
 pub mod PassTableLayoutLemmas  -- the table of both passes: what it says is so, and stays so as it grows
 pub mod PassesLayoutLemmas  -- what a pass finds is the end of the leftmost-first match

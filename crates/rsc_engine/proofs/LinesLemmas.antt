@@ -5,7 +5,7 @@ use Rattle.rsc_nfa.specs.Steps.{place}
 use Rattle.rsc_search.specs.declared.span.Span.{Span}
 use Rattle.rsc_search.specs.declared.anchored.Anchored.TheVariants.{No}
 use Rattle.rsc_engine.specs.Searches.{Search}
-use Rattle.rsc_engine.specs.Preferred.{HasNone}
+use Rattle.rsc_engine.specs.Preferred.{HasNoFirstMatch}
 use Rattle.rsc_engine.specs.Ends.{IsMatchEnd}
 use Rattle.rsc_engine.specs.Lines.{BeginsLine, IsLine, NoLine}
 use Rattle.rsc_engine.specs.LinesLayout.{IsCandidate, EndsFrom}
@@ -32,7 +32,8 @@ same-line h one other is its same =
         (cases_lt a.end b.end)
 
 -- a line that begins up to the end of another one is that one, or begins before it
-pub in-line : (h : List ℕ) (line other : Span) → IsLine h line → IsLine h other → line.start ≤ other.start → other.start < line.end + 1 → line ≡ other
+pub in-line : (h : List ℕ) (line other : Span) → IsLine h line → IsLine h other → line.start ≤ other.start → other.start < line.end + 1
+    → line ≡ other
 in-line h line other is its low high = ⊎_elim
     (λ (l : line.start < other.start). absurd (omega (arith, high, ends-before h line other.start is its.begins l)))
     (λ (g : other.start ≤ line.start). same-line h line other is its (omega arith))
@@ -47,7 +48,8 @@ none-joined h IsSuch a b c one other line is low high = ⊎_elim
     (cases_lt line.start b)
 
 -- a line that isn't, with those before it
-pub none-past : (h : List ℕ) (IsSuch : Span → Type 0) (a at : ℕ) (line : Span) → NoLine h IsSuch a at → IsCandidate h IsSuch at line → ¬ (IsSuch line)
+pub none-past : (h : List ℕ) (IsSuch : Span → Type 0) (a at : ℕ) (line : Span) → NoLine h IsSuch a at → IsCandidate h IsSuch at line
+    → ¬ (IsSuch line)
     → NoLine h IsSuch a (line.end + 1)
 none-past h IsSuch a at line before c is_none = none-joined h IsSuch a at (line.end + 1) before
     (none-joined h IsSuch at line.start (line.end + 1) c.none_before
@@ -61,7 +63,7 @@ begins-after h line is l = let e : line.end + 1 - 1 ≡ line.end = omega arith i
 
 -- where no match of the whole ends up to a position there is none in a part that ends there
 pub none-in-part : (e : Search) (from n : ℕ) → e.start ≤ from → n ≤ e.end → e.mode ≡ No → ((j : ℕ) → j ≤ n → ¬ (IsMatchEnd e j))
-    → HasNone (record e { start = from; end = n })
+    → HasNoFirstMatch (record e { start = from; end = n })
 none-in-part e from n low high free none at may run m = none (place run (length run - 1)).1 within record {
   from = at;
   run = run;
@@ -80,7 +82,7 @@ end-within e i x =
     (omega (arith, last.1, x.ends), omega (arith, last.2, x.ends))
 
 abbrev HasMatchOf : Search → Span → Type 0
-HasMatchOf e line = ¬ (HasNone (record e { start = line.start; end = line.end }))
+HasMatchOf e line = ¬ (HasNoFirstMatch (record e { start = line.start; end = line.end }))
 
 -- no line before the one with a position has a match, if no match ends before the position
 none-before-end : (e : Search) (i at : ℕ) → e.mode ≡ No → e.end ≡ length e.haystack → EndsFrom e i → at ≤ i → BeginsLine e.haystack at
@@ -106,6 +108,7 @@ none-around e i None free whole none after = none-before-end e i (length e.hayst
 none-around e i (Some line) free whole none after = tt
 
 -- no line from the search's start on has a match, if the search has none
-pub none-of-search : (e : Search) (to : ℕ) → e.mode ≡ No → e.end ≡ length e.haystack → HasNone e → NoLine e.haystack (HasMatchOf e) e.start to
+pub none-of-search : (e : Search) (to : ℕ) → e.mode ≡ No → e.end ≡ length e.haystack → HasNoFirstMatch e
+    → NoLine e.haystack (HasMatchOf e) e.start to
 none-of-search e to free whole none line is from before some =
     some (none-in-part e line.start line.end from (omega (arith, is.within, whole)) free (λ j l x. none x.from x.begins x.run x.is_match))

@@ -6,18 +6,18 @@ use Rattle.rsc_nfa.specs.declared.state.State.TheVariants.{ByteRange, Assert, Fo
 use Rattle.rsc_nfa.specs.Steps.{StepsTo, is_between}
 use Rattle.rsc_engine.specs.Patterns.{Pattern, Empty, Never, Class, Assertion, Then, Either, Repeat, Subject, Times, Goes}
 use Rattle.rsc_engine.proofs.PatternsLemmas.{between-back}
-use Rattle.rsc_engine.specs.LinksLayout.{Aim, Ends, HasEnd, Realizes, choice_of, optional, IsChoice}
+use Rattle.rsc_engine.specs.LinksLayout.{Aim, StepsLead, HasEnd, Realizes, choice_of, optional, IsChoice}
 
 -- ---- steps of one state
 
 abbrev Leads : Aim → State → ℕ → ℕ × ℕ → Type 0
-Leads a state i to = StepsTo state a.text.terminator a.text.word_chars a.text.haystack a.end i to
+Leads a state i to = StepsTo state a.subject.terminator a.subject.word_chars a.subject.haystack a.end i to
 
 abbrev pub may_accept : Option State → Bool
 may_accept (Some (Accept q)) = true
 may_accept _ = false
 
-pub end_within : (states : List State) (a : Aim) (n s i : ℕ) → Ends states a n s i → i ≤ a.end
+pub end_within : (states : List State) (a : Aim) (n s i : ℕ) → StepsLead states a n s i → i ≤ a.end
 end_within states a zero s i e = e.2
 end_within states a (suc n) s i e = e.0
 
@@ -73,7 +73,7 @@ Realizes-range states s x y next is = record {
   complete = λ a i k g h.
       let within = end_within states a h.steps next k h.ends in
       step_more states a s i next k (ByteRange x y next) is (omega (arith, within, g.1))
-      (omega (arith, within, g.1), one_of_one (is_between x y (slice_get a.text.haystack i)) g.0, refl, g.1) h;
+      (omega (arith, within, g.1), one_of_one (is_between x y (slice_get a.subject.haystack i)) g.0, refl, g.1) h;
 }
 
 -- ---- parts made of parts
@@ -82,7 +82,7 @@ Realizes-range states s x y next is = record {
 pub Realizes-is : (states : List State) (first next : ℕ) (p q : Pattern) → ((x : Subject) (i j : ℕ) → Goes x q i j → Goes x p i j)
     → Realizes states first next p → Realizes states first next q
 Realizes-is states first next p q back r = record {
-  complete = λ a i k g h. r.complete a i k (back a.text i k g) h;
+  complete = λ a i k g h. r.complete a i k (back a.subject i k g) h;
 }
 
 pub Realizes-then : (states : List State) (first middle next : ℕ) (p q : Pattern) → Realizes states middle next q → Realizes states first middle p
@@ -102,10 +102,10 @@ pub Realizes-either : (states : List State) (s one other next : ℕ) (p q : Patt
     → Realizes states one next p → Realizes states other next q → Realizes states s next (Either p q)
 Realizes-either states s one other next p q is rp rq = record {
   complete = λ a i k g h. ⊎_elim
-      (λ (x : Goes a.text p i k).
+      (λ (x : Goes a.subject p i k).
       let m = rp.complete a i k x h in
       step_more states a s i one i (Fork one other) is (end_within states a m.steps one i m.ends) (inl refl, refl) m)
-      (λ (x : Goes a.text q i k).
+      (λ (x : Goes a.subject q i k).
       let m = rq.complete a i k x h in
       step_more states a s i other i (Fork one other) is (end_within states a m.steps other i m.ends) (inr refl, refl) m)
       g;
@@ -147,7 +147,7 @@ Realizes-star states s first next greedy p c r = record {
   complete = λ a i k g h. back a g.0 i k g.3 h;
 }
   where
-    back : (a : Aim) (n i k : ℕ) → Times (Goes a.text p) n i k → HasEnd states a next k → HasEnd states a s i
+    back : (a : Aim) (n i k : ℕ) → Times (Goes a.subject p) n i k → HasEnd states a next k → HasEnd states a s i
     back a zero i k t h = choice_next states a s i first next c (moved states a next i k t h)
     back a (suc n) i k t h = choice_first states a s i first next c (r.complete a i t.0 t.1 (back a n t.0 k t.2 h))
 

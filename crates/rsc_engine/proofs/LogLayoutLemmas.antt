@@ -26,7 +26,8 @@ module _ (e : Search) (classes : List ℕ) (rows : List PassRow) where
     begun = rw same on.begun;
   }
 
-  pub logged-first : (k least : ℕ) (log : List ℕ) → log ≡ k ∷ [] → StandsBackward e classes rows k (e.end + 1) least → IsLogOf e (e.end + 1) rows log
+  pub logged-first : (k least : ℕ) (log : List ℕ) → log ≡ k ∷ [] → StandsBackward e classes rows k (e.end + 1) least
+      → IsLogOf e (e.end + 1) rows log
   logged-first k least log is on = rw is (record { count = omega arith; each = each })
     where
       each : (b : ℕ) → e.end + 1 ≤ b → b ≤ e.end + 1 → IsLoggedAt e rows (k ∷ []) b
@@ -91,7 +92,8 @@ pub log-on : (e : Search) (classes : List ℕ) (old new : List PassRow) (next i 
 log-on e classes old new next i least log more is_more grown on l =
     logged-more e classes new i next least log more is_more on (logged-grown e (i + 1) old new log grown l)
 
-pub back-on : (e : Search) (classes : List ℕ) (rows : List PassRow) (next i least : ℕ) (log : List ℕ) → 0 < i → StandsBackward e classes rows next i least
+pub back-on : (e : Search) (classes : List ℕ) (rows : List PassRow) (next i least : ℕ) (log : List ℕ) → 0 < i
+    → StandsBackward e classes rows next i least
     → IsLogOf e i rows log → IsBackAt e classes rows next (i - 1) least log
 back-on e classes rows next i least log some on l = record { stands = rw back on; logged = rw back l }
   where

@@ -4,8 +4,8 @@ use Rattle.std.proofs.lemmas.List.{length-set}
 use Rattle.rsc_nfa.specs.declared.state.State.{State}
 use Rattle.rsc_engine.specs.Patterns.{Pattern, Then, Repeat, may_be_empty}
 use Rattle.rsc_engine.specs.EnclosesLayout.{Encloses}
-use Rattle.rsc_engine.specs.NamesLayout.{asked_by, Names}
-use Rattle.rsc_engine.proofs.NamesLayoutLemmas.{Names-choice, Names-loop, Names-alike, optional-same, optional-back, up_to-same, counted-same}
+use Rattle.rsc_engine.specs.StatesLayout.{asked_by, FitsAndAsks}
+use Rattle.rsc_engine.proofs.StatesLayoutLemmas.{FitsAndAsks-choice, FitsAndAsks-loop, FitsAndAsks-alike, optional-same, optional-back, up_to-same, counted-same}
 use Rattle.rsc_engine.specs.GroupNumbers.{count_groups, numbered}
 use Rattle.rsc_engine.proofs.GroupNumbersLemmas.{numbered-empty}
 use Rattle.rsc_engine.specs.LinksLayout.{Adds, Builds, BuildsPart, BuildsCopies, IsAdded, Realizes, choice_of, copies, optional, up_to}
@@ -32,8 +32,8 @@ Builds-optional slots old last new one id next greedy p x a =
       Realizes-choice all id one next greedy p is r.0,
       Encloses-choice slots.0 (length old) (length last) (length new) one id next all x.longer a.last (grown last new (choice_of greedy one next) id a) r.1
           (is_choice all id one next greedy is),
-      Names-alike slots.1 (asked_by p) (asked_by (optional greedy p)) (length old) (length new) all (optional-back greedy p)
-          (Names-choice slots.1 (asked_by p) (length old) (length last) (length new) id one next all x.longer a.last
+      FitsAndAsks-alike slots.1 (asked_by p) (asked_by (optional greedy p)) (length old) (length new) all (optional-back greedy p)
+          (FitsAndAsks-choice slots.1 (asked_by p) (length old) (length last) (length new) id one next all x.longer a.last
           (grown last new (choice_of greedy one next) id a) (is_choice all id one next greedy is) r.2),
       ByWays-choice all id one next greedy p is r.3,
       Takes-choice (length old) (length last) (length new) one id next greedy p all x.longer a.last
@@ -53,11 +53,12 @@ record LoopsOver (slots : ℕ × ℕ) (low high first again next : ℕ) (greedy 
   choice : slice_get all again ≡ Some (choice_of greedy first next)
   part : Realizes all first again p
   encloses : Encloses slots.0 low high again next all × Encloses slots.0 low high first next all
-  names : Names slots.1 (asked_by p) low high all
+  names : FitsAndAsks slots.1 (asked_by p) low high all
   orders : ByWays all first again p
   takes : TakesCourse (low + 1) high first again p all
 
-Adds-loop : (slots : ℕ × ℕ) (old middle last : List State) (state : State) (first again next : ℕ) (greedy : Bool) (p : Pattern) → IsAdded old middle state again
+Adds-loop : (slots : ℕ × ℕ) (old middle last : List State) (state : State) (first again next : ℕ) (greedy : Bool) (p : Pattern)
+    → IsAdded old middle state again
     → Builds slots middle last first again p
     → Adds old (set last again (choice_of greedy first next))
     (LoopsOver slots (length old) (length (set last again (choice_of greedy first next))) first again next greedy p)
@@ -73,7 +74,7 @@ Adds-loop slots old middle last state first again next greedy p a x =
       part = is.1.0;
       encloses = Encloses-loop slots.0 (length old) (length middle) (length last) (length (set last again written)) first again next all a.last
           (grown old middle state again a) x.longer (length-set last again written) fork is.1.1;
-      names = Names-loop slots.1 (asked_by p) (length old) (length middle) (length last) (length (set last again written)) again first next all a.last
+      names = FitsAndAsks-loop slots.1 (asked_by p) (length old) (length middle) (length last) (length (set last again written)) again first next all a.last
           (grown old middle state again a) x.longer (length-set last again written) fork is.1.2;
       orders = is.1.3;
       takes = Takes-wider (length middle) (length last) (length old + 1) (length (set last again written)) first again p all
@@ -121,7 +122,8 @@ Builds-plus slots old middle last state first again next greedy p a x =
     (Adds-loop slots old middle last state first again next greedy p a x)
 
 -- at most a number of times
-Builds-up_to : (slots : ℕ × ℕ) (old new : List State) (first next n : ℕ) (greedy : Bool) (p : Pattern) → Builds slots old new first next (up_to greedy n p)
+Builds-up_to : (slots : ℕ × ℕ) (old new : List State) (first next n : ℕ) (greedy : Bool) (p : Pattern)
+    → Builds slots old new first next (up_to greedy n p)
     → Builds slots old new first next (Repeat 0 (Some n) greedy p)
 Builds-up_to slots old new first next n greedy p x =
     Builds-is slots old new first next (up_to greedy n p) (Repeat 0 (Some n) greedy p) (up_to-back greedy n p) (up_to-ways greedy n p)
@@ -168,7 +170,8 @@ pub BuildsCopies-up_to_none : (slot_of : ℕ → ℕ) (slots : ℕ × ℕ) (left
     → BuildsCopies slot_of slots left left states states next next 0 (up_to greedy 0) p
 BuildsCopies-up_to_none slot_of slots left states next greedy p = (λ l. absurd (omega (arith, l)), λ n e. Builds-empty slots states next, omega arith)
 
-pub BuildsCopies-more : (slot_of : ℕ → ℕ) (slots : ℕ × ℕ) (left mid now : ℕ) (old middle new : List State) (first between next count : ℕ) (p : Pattern)
+pub BuildsCopies-more : (slot_of : ℕ → ℕ)
+    (slots : ℕ × ℕ) (left mid now : ℕ) (old middle new : List State) (first between next count : ℕ) (p : Pattern)
     → BuildsCopies slot_of slots left mid old middle between next count (copies count) p
     → BuildsPart slot_of slots left now middle new first between p
     → BuildsCopies slot_of slots left now old new first next (suc count) (copies (suc count)) p
@@ -179,7 +182,8 @@ BuildsCopies-more slot_of slots left mid now old middle new first between next c
   omega (arith, x.2, y.2),
 )
 
-pub BuildsCopies-up_to_more : (slot_of : ℕ → ℕ) (slots : ℕ × ℕ) (left mid now : ℕ) (old middle last new : List State) (one between id next count : ℕ)
+pub BuildsCopies-up_to_more : (slot_of : ℕ → ℕ)
+    (slots : ℕ × ℕ) (left mid now : ℕ) (old middle last new : List State) (one between id next count : ℕ)
     (greedy : Bool) (p : Pattern)
     → BuildsCopies slot_of slots left mid old middle between next count (up_to greedy count) p
     → BuildsPart slot_of slots left now middle last one between p → IsAdded last new (choice_of greedy one next) id
@@ -193,8 +197,10 @@ BuildsCopies-up_to_more slot_of slots left mid now old middle last new one betwe
   omega (arith, x.2, y.2, a.one, optional-size greedy (Then p (up_to greedy count p))),
 )
 
-pub BuildsPart-star : (slot_of : ℕ → ℕ) (slots : ℕ × ℕ) (left now : ℕ) (old last new : List State) (one id next : ℕ) (greedy : Bool) (p : Pattern)
-    → may_be_empty p ≡ true → BuildsPart slot_of slots left now old last one next (Repeat 1 None greedy p) → IsAdded last new (choice_of greedy one next) id
+pub BuildsPart-star : (slot_of : ℕ → ℕ)
+    (slots : ℕ × ℕ) (left now : ℕ) (old last new : List State) (one id next : ℕ) (greedy : Bool) (p : Pattern)
+    → may_be_empty p ≡ true → BuildsPart slot_of slots left now old last one next (Repeat 1 None greedy p)
+    → IsAdded last new (choice_of greedy one next) id
     → BuildsPart slot_of slots left now old new id next (Repeat 0 None greedy p)
 BuildsPart-star slot_of slots left now old last new one id next greedy p empty x a = (
   x.0,
@@ -202,7 +208,8 @@ BuildsPart-star slot_of slots left now old last new one id next greedy p empty x
   omega (arith, x.2, a.one, entered-size greedy p empty),
 )
 
-pub BuildsPart-again : (slot_of : ℕ → ℕ) (slots : ℕ × ℕ) (left now : ℕ) (old middle last : List State) (state : State) (first again next : ℕ) (greedy : Bool)
+pub BuildsPart-again : (slot_of : ℕ → ℕ)
+    (slots : ℕ × ℕ) (left now : ℕ) (old middle last : List State) (state : State) (first again next : ℕ) (greedy : Bool)
     (p : Pattern) → may_be_empty p ≡ false → IsAdded old middle state again → BuildsPart slot_of slots left now middle last first again p
     → BuildsPart slot_of slots left now old (set last again (choice_of greedy first next)) again next (Repeat 0 None greedy p)
 BuildsPart-again slot_of slots left now old middle last state first again next greedy p taking a x = (
@@ -211,7 +218,8 @@ BuildsPart-again slot_of slots left now old middle last state first again next g
   omega (arith, x.2, a.one, length-set last again (choice_of greedy first next), loop-size greedy p taking),
 )
 
-pub BuildsPart-plus : (slot_of : ℕ → ℕ) (slots : ℕ × ℕ) (left now : ℕ) (old middle last : List State) (state : State) (first again next : ℕ) (greedy : Bool)
+pub BuildsPart-plus : (slot_of : ℕ → ℕ)
+    (slots : ℕ × ℕ) (left now : ℕ) (old middle last : List State) (state : State) (first again next : ℕ) (greedy : Bool)
     (p : Pattern) → IsAdded old middle state again → BuildsPart slot_of slots left now middle last first again p
     → BuildsPart slot_of slots left now old (set last again (choice_of greedy first next)) first next (Repeat 1 None greedy p)
 BuildsPart-plus slot_of slots left now old middle last state first again next greedy p a x = (
@@ -220,7 +228,8 @@ BuildsPart-plus slot_of slots left now old middle last state first again next gr
   omega (arith, x.2, a.one, length-set last again (choice_of greedy first next)),
 )
 
-pub BuildsPart-unlimited : (slot_of : ℕ → ℕ) (slots : ℕ × ℕ) (left mid now : ℕ) (old middle new : List State) (min last first next : ℕ) (greedy : Bool)
+pub BuildsPart-unlimited : (slot_of : ℕ → ℕ)
+    (slots : ℕ × ℕ) (left mid now : ℕ) (old middle new : List State) (min last first next : ℕ) (greedy : Bool)
     (p : Pattern) → 1 < min → BuildsPart slot_of slots left mid old middle last next (Repeat 1 None greedy p)
     → BuildsCopies slot_of slots left now middle new first last (min - 1) (copies (min - 1)) p
     → BuildsPart slot_of slots left now old new first next (Repeat min None greedy p)
@@ -234,7 +243,8 @@ BuildsPart-unlimited slot_of slots left mid now old middle new min last first ne
       omega (arith, x.2, y.2, unlimited-size (min - 1) min greedy p (omega (arith, more))),
     )
 
-pub BuildsPart-limited : (slot_of : ℕ → ℕ) (slots : ℕ × ℕ) (left mid now : ℕ) (old middle new : List State) (min max rest first next : ℕ) (greedy : Bool)
+pub BuildsPart-limited : (slot_of : ℕ → ℕ)
+    (slots : ℕ × ℕ) (left mid now : ℕ) (old middle new : List State) (min max rest first next : ℕ) (greedy : Bool)
     (p : Pattern) → 0 < min → BuildsCopies slot_of slots left mid old middle rest next (max - min) (up_to greedy (max - min)) p
     → BuildsCopies slot_of slots left now middle new first rest min (copies min) p
     → BuildsPart slot_of slots left now old new first next (Repeat min (Some max) greedy p)
@@ -261,7 +271,8 @@ BuildsPart-no_times slot_of slots left now states next greedy p its = (
   omega (arith, up_to_only-size 0 greedy p),
 )
 
-pub BuildsPart-zero : (slot_of : ℕ → ℕ) (slots : ℕ × ℕ) (left now : ℕ) (old new : List State) (min max first next : ℕ) (greedy : Bool) (p : Pattern)
+pub BuildsPart-zero : (slot_of : ℕ → ℕ)
+    (slots : ℕ × ℕ) (left now : ℕ) (old new : List State) (min max first next : ℕ) (greedy : Bool) (p : Pattern)
     → min ≡ 0 → max ≡ 0 → BuildsPart slot_of slots left now old new first next (Repeat 0 (Some 0) greedy p)
     → BuildsPart slot_of slots left now old new first next (Repeat min (Some max) greedy p)
 BuildsPart-zero slot_of slots left now old new min max first next greedy p none never x =

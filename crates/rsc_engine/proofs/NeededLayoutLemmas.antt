@@ -8,7 +8,7 @@ use Rattle.rsc_nfa.specs.declared.state.State.TheVariants.{ByteRange, Assert, Fo
 use Rattle.rsc_nfa.specs.Steps.{StepsTo, place, is_between}
 use Rattle.rsc_engine.specs.Searches.{Search}
 use Rattle.rsc_engine.specs.Runs.{Leads, is_accepting, HasNoMatch}
-use Rattle.rsc_engine.specs.Preferred.{HasNone}
+use Rattle.rsc_engine.specs.Preferred.{HasNoFirstMatch}
 use Rattle.rsc_engine.specs.RowsLayout.{machine_of, IsMarked}
 use Rattle.rsc_engine.specs.NeededLayout.{is_in, HasNoPair, mark_of, NeedsPair}
 use Rattle.rsc_engine.proofs.PatternsLemmas.{and_cases, between}
@@ -78,5 +78,5 @@ module _ (e : Search) (a b : ℕ × ℕ) (needed : NeedsPair (machine_of e) a b)
       go (Some (Accept p)) is h = true≢false (sym (needed.passed (place run last).0 (after (place run last).1) (Accept p) is (stays last within)))
 
   -- no match is where one may begin
-  pub none_without : HasNone e
+  pub none_without : HasNoFirstMatch e
   none_without at may = none_begins at

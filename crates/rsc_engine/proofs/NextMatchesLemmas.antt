@@ -10,24 +10,24 @@ use Rattle.rsc_search.specs.Matches.{Matched}
 use Rattle.rsc_search.specs.declared.anchored.Anchored.TheVariants.{No}
 use Rattle.rsc_engine.specs.Searches.{Search, Compiled, search_in}
 use Rattle.rsc_engine.specs.Runs.{IsMatchOf}
-use Rattle.rsc_engine.specs.Preferred.{IsPreferred, IsLeftmostFirst, HasNone, IsOf}
-use Rattle.rsc_engine.specs.NextMatches.{IsRepeat, IsSplit, IsRepeated, IsPassed, MayBeNext, IsNext, IsOver, from_start, steps_left}
+use Rattle.rsc_engine.specs.Preferred.{IsPreferred, IsLeftmostFirst, HasNoFirstMatch, IsMatchWithRecords}
+use Rattle.rsc_engine.specs.NextMatches.{IsRepeat, IsSplit, IsRepeatAt, IsLeftOutAt, MayBeNext, IsNext, IsOver, from_start, calls_left}
 use Rattle.rsc_engine.proofs.PreferredLemmas.{is_no, one_preferred, preferred_shift, none_shift}
 
 -- ---- the positions before a search's start
 
--- the search's start has moved on to i: each open position before it is passed, and it's open itself, if it's in the span
+-- the search's start has moved on to i: each position before it at which the next match may begin is left out, and it's open itself, if it's in the span
 pub record IsMoved (e : Search) (last : Option ℕ) (i : ℕ) : Type 0 where
   pub up : e.start ≤ i
-  pub passed : (at : ℕ) → at < i → MayBeNext e last at → IsPassed e last at
+  pub left_out : (at : ℕ) → at < i → MayBeNext e last at → IsLeftOutAt e last at
   pub begins : i ≤ e.end → MayBeNext e last i
 
 module _ (e : Search) (i start : ℕ) (last : Option ℕ) (run : List (ℕ × ℕ)) (v : IsMoved (record e { start = start }) last i)
     (f : IsLeftmostFirst (record e { start = i }) run) where
-  -- up to the leftmost match from i on, each open position is passed
-  up_to : (at : ℕ) → at < (place run 0).1 → MayBeNext (record e { start = start }) last at → IsPassed (record e { start = start }) last at
+  -- up to the leftmost match from i on, each position at which the next match may begin is left out
+  up_to : (at : ℕ) → at < (place run 0).1 → MayBeNext (record e { start = start }) last at → IsLeftOutAt (record e { start = start }) last at
   up_to at high o = ⊎_elim
-      (λ (l : at < i). v.passed at l o)
+      (λ (l : at < i). v.left_out at l o)
       (λ (le : i ≤ at). inl (none_shift e i start at le (f.leftmost at le high)))
       (cases_lt at i)
 
@@ -49,14 +49,14 @@ module _ (e : Search) (i start : ℕ) (last : Option ℕ) (run : List (ℕ × �
     preferred = from_there;
     no_repeat = no_repeat;
     splits_none = no_split;
-    passed = up_to;
+    left_out = up_to;
   }
 
   -- after a repeat the start moves on by one
   pub moved_repeat : IsRepeat last run → IsMoved (record e { start = start }) last ((place run 0).1 + 1)
   moved_repeat repeats = record {
     up = omega (arith, v.up, f.begins.start);
-    passed = λ at high o. ⊎_elim
+    left_out = λ at high o. ⊎_elim
         (λ (l : at < (place run 0).1). up_to at l o)
         (λ (le : (place run 0).1 ≤ at). let same : at ≡ (place run 0).1 = omega (arith, le, high) in inr (inl (rw same repeated)))
         (cases_lt at (place run 0).1);
@@ -70,14 +70,14 @@ module _ (e : Search) (i start : ℕ) (last : Option ℕ) (run : List (ℕ × �
     };
   }
     where
-      repeated : IsRepeated (record e { start = start }) last (place run 0).1
+      repeated : IsRepeatAt (record e { start = start }) last (place run 0).1
       repeated = record { run = run; preferred = from_there; repeats = repeats }
 
   -- after a match that splits a character, by one too, if the search isn't anchored
   pub moved_split : IsSplit (record e { start = start }) run → e.mode ≡ No → IsMoved (record e { start = start }) last ((place run 0).1 + 1)
   moved_split splits free = record {
     up = omega (arith, v.up, f.begins.start);
-    passed = λ at high o. ⊎_elim
+    left_out = λ at high o. ⊎_elim
         (λ (l : at < (place run 0).1). up_to at l o)
         (λ (le : (place run 0).1 ≤ at). let same : at ≡ (place run 0).1 = omega (arith, le, high) in
         inr (inr (rw same (record { run = run; preferred = from_there; splits = splits }))))
@@ -90,15 +90,16 @@ module _ (e : Search) (i start : ℕ) (last : Option ℕ) (run : List (ℕ × �
   }
 
   -- and if it's anchored, no later position is open
-  pub moved_over : IsSplit (record e { start = start }) run → ¬ (IsRepeat last run) → ¬ (e.mode ≡ No) → IsMoved (record e { start = start }) last (e.end + 1)
+  pub moved_over : IsSplit (record e { start = start }) run → ¬ (IsRepeat last run) → ¬ (e.mode ≡ No)
+      → IsMoved (record e { start = start }) last (e.end + 1)
   moved_over splits no_repeat anchored = record {
     up = omega (arith, v.up, f.begins.start, f.begins.end);
-    passed = λ at high o. ⊎_elim
+    left_out = λ at high o. ⊎_elim
         (λ (l : at < (place run 0).1). up_to at l o)
         (λ (le : (place run 0).1 ≤ at). ⊎_elim
         (λ (same : at ≡ (place run 0).1). inr (inr (rw same (record { run = run; preferred = from_there; splits = splits }))))
         (λ (apart : (at ≡ (place run 0).1) → ⊥).
-        let r : IsRepeated (record e { start = start }) last (place run 0).1 =
+        let r : IsRepeatAt (record e { start = start }) last (place run 0).1 =
         o.anchored anchored (place run 0).1 (omega (arith, v.up, f.begins.start)) (omega (arith, le, apart)) in
         absurd (no_repeat (subst (λ (x : List (ℕ × ℕ)). IsRepeat last x)
         (one_preferred (record e { start = start }) (e.start_state, (place run 0).1) r.run run r.preferred from_there) r.repeats)))
@@ -108,7 +109,8 @@ module _ (e : Search) (i start : ℕ) (last : Option ℕ) (run : List (ℕ × �
   }
 
 -- what a run records depends on the states alone
-pub of_states : (e f : Search) (run : List (ℕ × ℕ)) (m : Matched) (c : Captured) → f.states ≡ e.states → IsOf e run m c → IsOf f run m c
+pub of_states : (e f : Search) (run : List (ℕ × ℕ)) (m : Matched) (c : Captured) → f.states ≡ e.states → IsMatchWithRecords e run m c
+    → IsMatchWithRecords f run m c
 of_states e f run m c same x = record {
   ends = record { pattern = rw same x.ends.pattern; start = x.ends.start; end = x.ends.end };
   pattern = x.pattern;
@@ -117,9 +119,9 @@ of_states e f run m c same x = record {
 
 -- and if there is none, the iteration is over
 pub none_next : (e : Search) (i start : ℕ) (last : Option ℕ) → IsMoved (record e { start = start }) last i
-    → HasNone (record e { start = i }) → IsOver (record e { start = start }) last
+    → HasNoFirstMatch (record e { start = i }) → IsOver (record e { start = start }) last
 none_next e i start last v none at o = ⊎_elim
-    (λ (l : at < i). v.passed at l o)
+    (λ (l : at < i). v.left_out at l o)
     (λ (le : i ≤ at). inl (none_shift e i start at le (none at (record {
       start = le;
       end = o.end;
@@ -132,7 +134,7 @@ none_next e i start last v none at o = ⊎_elim
   where
     barred : ¬ (e.mode ≡ No) → i < at → ⊥
     barred anchored l =
-        let r : IsRepeated (record e { start = start }) last i = o.anchored anchored i v.up l in
+        let r : IsRepeatAt (record e { start = start }) last i = o.anchored anchored i v.up l in
         none_shift e i start i (omega arith) (none i (record {
           start = omega arith;
           end = omega (arith, l, o.end);
@@ -190,11 +192,11 @@ module _ {W : Type 0} (chars : W → ℕ → Bool) (p q : Compiled W) (input now
   there : search_in chars q now ≡ record (search_in chars p input) { start = now.span.start }
   there = ap (λ x. search_in chars x now) t.program ∙ ap (λ x. search_in chars p x) t.input_on
 
-  pub turn_none : HasNone (search_in chars q now) → IsOver (search_in chars p input) last
-  turn_none none = none_next (search_in chars p input) now.span.start input.span.start last t.moved (subst HasNone there none)
+  pub turn_none : HasNoFirstMatch (search_in chars q now) → IsOver (search_in chars p input) last
+  turn_none none = none_next (search_in chars p input) now.span.start input.span.start last t.moved (subst HasNoFirstMatch there none)
 
   module _ (run : List (ℕ × ℕ)) (m : Matched) (c : Captured) (first : IsLeftmostFirst (search_in chars q now) run)
-      (is_of : IsOf (search_in chars q now) run m c)
+      (is_of : IsMatchWithRecords (search_in chars q now) run m c)
       (mid : InputParts) (after : Compiled W) (ended : Option ℕ) (on : mid ≡ from_start now m.span.end) (kept : after ≡ q) (same : ended ≡ before) where
     first_there : IsLeftmostFirst (record (search_in chars p input) { start = now.span.start }) run
     first_there = subst (λ (e : Search). IsLeftmostFirst e run) there first
@@ -206,7 +208,8 @@ module _ {W : Type 0} (chars : W → ℕ → Bool) (p q : Compiled W) (input now
     not_again apart = no_repeat_run (search_in chars q now) last run m is_of.ends (λ empty h. apart empty (same ∙ t.last_end ∙ h))
 
     -- the search goes on at b
-    turn_to : (next : InputParts) (b : ℕ) → next ≡ from_start mid b → IsMoved (search_in chars p input) last b → IsTurn chars p after input next last ended
+    turn_to : (next : InputParts) (b : ℕ) → next ≡ from_start mid b → IsMoved (search_in chars p input) last b
+        → IsTurn chars p after input next last ended
     turn_to next b at moved = record {
       program = kept ∙ t.program;
       input_on = on_more input mid next mid.span.start b same_parts at;
@@ -257,12 +260,14 @@ module _ {W : Type 0} (chars : W → ℕ → Bool) (p q : Compiled W) (input now
 -- ---- there is one next match
 
 -- the next match is not passed
-next_not_passed : (e : Search) (last : Option ℕ) (run : List (ℕ × ℕ)) → IsNext e last run → IsPassed e last (place run 0).1 → ⊥
+next_not_passed : (e : Search) (last : Option ℕ) (run : List (ℕ × ℕ)) → IsNext e last run → IsLeftOutAt e last (place run 0).1 → ⊥
 next_not_passed e last run x (inl none) = none run x.preferred.is_match
 next_not_passed e last run x (inr (inl r)) =
-    x.no_repeat (subst (λ (y : List (ℕ × ℕ)). IsRepeat last y) (one_preferred e (e.start_state, (place run 0).1) r.run run r.preferred x.preferred) r.repeats)
+    x.no_repeat
+    (subst (λ (y : List (ℕ × ℕ)). IsRepeat last y) (one_preferred e (e.start_state, (place run 0).1) r.run run r.preferred x.preferred) r.repeats)
 next_not_passed e last run x (inr (inr s)) =
-    x.splits_none (subst (λ (y : List (ℕ × ℕ)). IsSplit e y) (one_preferred e (e.start_state, (place run 0).1) s.run run s.preferred x.preferred) s.splits)
+    x.splits_none
+    (subst (λ (y : List (ℕ × ℕ)). IsSplit e y) (one_preferred e (e.start_state, (place run 0).1) s.run run s.preferred x.preferred) s.splits)
 
 pub next_not_over : (e : Search) (last : Option ℕ) (run : List (ℕ × ℕ)) → IsOver e last → ¬ (IsNext e last run)
 next_not_over e last run over x = next_not_passed e last run x (over (place run 0).1 x.begins)
@@ -279,8 +284,8 @@ pub one_next : (e : Search) (last : Option ℕ) (one other : List (ℕ × ℕ)) 
 one_next e last one other x y = ⊎_elim
     (λ (same : (place one 0).1 ≡ (place other 0).1). same_start e one other x.preferred y.preferred same)
     (λ (h : ((place one 0).1 < (place other 0).1) ⊎ ((place other 0).1 < (place one 0).1)). ⊎_elim
-    (λ (l : (place one 0).1 < (place other 0).1). absurd (next_not_passed e last one x (y.passed (place one 0).1 l x.begins)))
-    (λ (l : (place other 0).1 < (place one 0).1). absurd (next_not_passed e last other y (x.passed (place other 0).1 l y.begins)))
+    (λ (l : (place one 0).1 < (place other 0).1). absurd (next_not_passed e last one x (y.left_out (place one 0).1 l x.begins)))
+    (λ (l : (place other 0).1 < (place one 0).1). absurd (next_not_passed e last other y (x.left_out (place other 0).1 l y.begins)))
     h)
     (cases_order (place one 0).1 (place other 0).1)
 
@@ -296,6 +301,6 @@ one_first e one other x y = ⊎_elim
 
 -- ---- how often it goes on
 
-pub fewer-left : (end m : ℕ) (last : Option ℕ) → ForSome last (λ e. e < m) → m ≤ end → steps_left end (Some m) < steps_left end last
+pub fewer-left : (end m : ℕ) (last : Option ℕ) → ForSome last (λ e. e < m) → m ≤ end → calls_left end (Some m) < calls_left end last
 fewer-left end m None later within = omega (arith, within)
 fewer-left end m (Some e) later within = omega (arith, within, later e refl)

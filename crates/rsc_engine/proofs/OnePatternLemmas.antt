@@ -9,12 +9,12 @@ use Rattle.rsc_captures.specs.Groups.{Groups, GroupLists}
 use Rattle.rsc_engine.specs.Searches.{Search, Compiled, search_in}
 use Rattle.rsc_engine.specs.Runs.{is_wanted}
 use Rattle.rsc_engine.specs.Patterns.{Pattern, Subject, Goes, may_be_empty, IsMatchIn}
-use Rattle.rsc_engine.specs.Preferred.{IsFirstMatch, HasNone}
+use Rattle.rsc_engine.specs.Preferred.{IsFirstMatch, HasNoFirstMatch}
 use Rattle.rsc_engine.specs.NextMatches.{IsNextMatch, IsOver}
 use Rattle.rsc_engine.specs.GroupNumbers.{as_whole}
 use Rattle.rsc_engine.specs.PreferredWays.{IsPreferredWay}
-use Rattle.rsc_engine.specs.PatternMatches.{NoneGoesOn, IsPreferredOf, HoldRecords, Repeats, Splits, PrefersThere, IsPassedOf, IsBuiltOf}
-use Rattle.rsc_engine.specs.OnePattern.{subject_in, IsMatchOfOne, GoesNowhereTo, GoesNowhereIn, IsWayOfOne, StaysAt, IsPassedOfOne, IsNextOfOne, IsOverOfOne}
+use Rattle.rsc_engine.specs.PatternMatches.{NoneGoesOn, IsPreferredOf, HoldRecords, Repeats, Splits, PrefersThere, IsLeftOutOf, IsBuiltOf}
+use Rattle.rsc_engine.specs.OnePattern.{subject_in, IsMatchOfOne, GoesNowhereTo, GoesNowhereIn, IsWayOfOne, StaysAt, IsLeftOutOfOne, IsNextOfOne, IsOverOfOne}
 use Rattle.rsc_engine.proofs.PatternsLemmas.{goes-takes}
 
 its_only : (p q : Pattern) (n : ℕ) → slice_get (p ∷ []) n ≡ Some q → (n ≡ 0) × (q ≡ p)
@@ -29,7 +29,8 @@ module _ {W : Type 0} (chars : W → ℕ → Bool) (program : Compiled W) (p : P
   x = subject_in chars input.haystack program.automaton.matcher
 
   -- where no pattern goes on, this one goes nowhere
-  none-goes : (i j : ℕ) → is_wanted (pattern_of_mode input.anchored) 0 ≡ true → input.span.start ≤ i → j ≤ input.span.end → NoneGoesOn (p ∷ []) e i
+  none-goes : (i j : ℕ) → is_wanted (pattern_of_mode input.anchored) 0 ≡ true → input.span.start ≤ i → j ≤ input.span.end
+      → NoneGoesOn (p ∷ []) e i
       → ¬ (Goes x p i j)
   none-goes i j wanted low high none goes = none (record { pattern = 0; span = record { start = i; end = j } }) refl
       (record { pattern = p; its = refl; wanted = wanted; start = low; end = high; goes = goes })
@@ -41,7 +42,8 @@ module _ {W : Type 0} (chars : W → ℕ → Bool) (program : Compiled W) (p : P
   goes-of found m = subst (λ (q : Pattern). Goes x q found.span.start found.span.end) (its_only p m.pattern found.pattern m.its).1 m.goes
 
   -- a pattern that takes bytes isn't preferred where its match is empty
-  none-prefers : (at : ℕ) (Such : Matched → Type 0) → may_be_empty p ≡ false → ((found : Matched) → Such found → found.span.start ≡ found.span.end)
+  none-prefers : (at : ℕ) (Such : Matched → Type 0) → may_be_empty p ≡ false
+      → ((found : Matched) → Such found → found.span.start ≡ found.span.end)
       → PrefersThere (p ∷ []) program.automaton.groups e at Such → ⊥
   none-prefers at Such takes empty t = omega (
     arith,
@@ -49,7 +51,8 @@ module _ {W : Type 0} (chars : W → ℕ → Bool) (program : Compiled W) (p : P
     goes-takes x p t.found.span.start t.found.span.end takes (goes-of t.found t.preferred.is_in),
   )
 
-  passed-none : (last : Option ℕ) (at : ℕ) → may_be_empty p ≡ false → IsPassedOf (p ∷ []) program.automaton.groups e last at → NoneGoesOn (p ∷ []) e at
+  passed-none : (last : Option ℕ) (at : ℕ) → may_be_empty p ≡ false → IsLeftOutOf (p ∷ []) program.automaton.groups e last at
+      → NoneGoesOn (p ∷ []) e at
   passed-none last at takes (inl none) = none
   passed-none last at takes (inr (inl t)) = absurd (none-prefers at (Repeats last) takes (λ found r. r.empty) t)
   passed-none last at takes (inr (inr t)) = absurd (none-prefers at (Splits e) takes (λ found s. s.empty) t)
@@ -112,7 +115,7 @@ module _ {W : Type 0} (chars : W → ℕ → Bool) (program : Compiled W) (p : P
     }
 
     passed-of : (utf8 : Bool) (last : Option ℕ) (at : ℕ) → program.utf8 ≡ utf8 → is_wanted (pattern_of_mode input.anchored) 0 ≡ true
-        → input.span.start ≤ at → IsPassedOf (p ∷ []) program.automaton.groups e last at → IsPassedOfOne x p groups utf8 input.span.end last at
+        → input.span.start ≤ at → IsLeftOutOf (p ∷ []) program.automaton.groups e last at → IsLeftOutOfOne x p groups utf8 input.span.end last at
     passed-of utf8 last at text wanted low (inl none) = inl (λ j high. none-goes at j wanted low high none)
     passed-of utf8 last at text wanted low (inr (inl t)) = let r = repeats last at t in inr (r.0, inl r.1)
     passed-of utf8 last at text wanted low (inr (inr t)) = inr (
@@ -121,7 +124,8 @@ module _ {W : Type 0} (chars : W → ℕ → Bool) (program : Compiled W) (p : P
     )
 
   module _ (built : IsBuiltOf chars program (p ∷ [])) where
-    pub first-of-one : (groups : Groups) (captures : Captured) (found : Matched) → program.automaton.groups ≡ groups ∷ [] → IsFirstMatch e captures found
+    pub first-of-one : (groups : Groups) (captures : Captured) (found : Matched) → program.automaton.groups ≡ groups ∷ []
+        → IsFirstMatch e captures found
         → IsMatchOfOne x p groups input captures found × GoesNowhereTo x p input found.span.start
     first-of-one groups captures found lists f =
         let first = built.first input captures found f in (
@@ -129,7 +133,7 @@ module _ {W : Type 0} (chars : W → ℕ → Bool) (program : Compiled W) (p : P
           λ i j low before high. none-goes i j (wanted-of found first.preferred.is_in) low high (first.earlier i low before),
         )
 
-    pub none-of-one : HasNone e → GoesNowhereIn x p input
+    pub none-of-one : HasNoFirstMatch e → GoesNowhereIn x p input
     none-of-one none = λ wanted i j low high anchored within.
         none-goes i j wanted low within (built.none input none i (record { start = low; end = high; anchored = anchored }))
 
@@ -140,7 +144,7 @@ module _ {W : Type 0} (chars : W → ℕ → Bool) (program : Compiled W) (p : P
         let next = built.next input last captures found f in (
           one-of groups lists captures found next.records next.preferred next.hold,
           λ takes i j low before high. none-goes i j (wanted-of found next.preferred.is_in) low high
-              (passed-none last i takes (next.passed i before (record {
+              (passed-none last i takes (next.left_out i before (record {
                 start = low;
                 end = omega (arith, before, next.begins.end);
                 anchored = λ other earlier from l. next.begins.anchored other earlier from (omega (arith, l, before));
@@ -155,7 +159,8 @@ module _ {W : Type 0} (chars : W → ℕ → Bool) (program : Compiled W) (p : P
           anchored = λ other earlier from l. absurd (omega (arith, anchored other, from, l));
         })))
 
-    pub taken-of-one : (groups : Groups) (utf8 : Bool) (last : Option ℕ) (captures : Captured) (found : Matched) → program.automaton.groups ≡ groups ∷ []
+    pub taken-of-one : (groups : Groups) (utf8 : Bool) (last : Option ℕ) (captures : Captured) (found : Matched)
+        → program.automaton.groups ≡ groups ∷ []
         → program.utf8 ≡ utf8 → IsNextMatch e last captures found → IsNextOfOne x p groups utf8 input last found.span
     taken-of-one groups utf8 last captures found lists text f =
         let next = built.next input last captures found f in
@@ -170,14 +175,15 @@ module _ {W : Type 0} (chars : W → ℕ → Bool) (program : Compiled W) (p : P
               (λ (apart : (utf8 ≡ true) × (¬ (IsCharBoundary input.haystack found.span.start))).
               next.splits_none (record { utf8 = text ∙ apart.0; empty = empty; within = apart.1 }))
               left;
-          passed = λ at low before. passed-of groups lists utf8 last at text (wanted-of found next.preferred.is_in) low (next.passed at before (record {
+          left_out = λ at low before. passed-of groups lists utf8 last at text (wanted-of found next.preferred.is_in) low (next.left_out at before (record {
             start = low;
             end = omega (arith, before, next.begins.end);
             anchored = λ other earlier from l. next.begins.anchored other earlier from (omega (arith, l, before));
           }));
         }
 
-    pub passed-of-one : (groups : Groups) (utf8 : Bool) (last : Option ℕ) → program.automaton.groups ≡ groups ∷ [] → program.utf8 ≡ utf8 → IsOver e last
+    pub passed-of-one : (groups : Groups) (utf8 : Bool) (last : Option ℕ) → program.automaton.groups ≡ groups ∷ [] → program.utf8 ≡ utf8
+        → IsOver e last
         → IsOverOfOne x p groups utf8 input last
     passed-of-one groups utf8 last lists text over = λ wanted at o.
         passed-of groups lists utf8 last at text wanted o.start (built.over input last over at (record {

@@ -1,4 +1,4 @@
--- A look at a list beside a small haystack is one at each position for which the small haystack stands.
+-- A scan of a list beside a small haystack is one at each position for which the small haystack stands.
 use Rattle.std.proofs.Common.{◌≡◌, ℕ, ◌+◌, ◌<◌, ◌≤◌, ◌⊎◌, inl, inr, ⊎_elim, Bool, List, ◌∷◌, refl, ap, subst, arith, slice_get, Option, Some, None, MatchOption}
 use Rattle.rsc_nfa.specs.declared.state.State.{State}
 use Rattle.rsc_nfa.specs.declared.state.State.TheVariants.{ByteRange, Assert, Fork, Capture, Accept}
@@ -36,34 +36,34 @@ module _ (e : Search) (i : ℕ) (near : List ℕ) (at : ℕ) (n : IsNear e i nea
         inr (h.0, (n.moves s q.0 within).0 (subst (λ (r : ℕ × ℕ). Leads e (s, i) r) (same_place q (q.0, i + 1) refl h.0) l)))
         (step_goes e (s, i) q l)
 
-    pub looks-near : (seen : ℕ → Bool) (list next out : List ℕ) (found : Option (ℕ × ℕ)) → Scans small at seen list next out found
+    pub scans-near : (seen : ℕ → Bool) (list next out : List ℕ) (found : Option (ℕ × ℕ)) → Scans small at seen list next out found
         → Scans e i seen list next out (placed i found)
-    looks-near seen list next out found (done _ _) = done seen next
-    looks-near seen list next out found (again _ s more _ _ _ is l) =
-        again seen s more next out (placed i found) is (looks-near seen more next out found l)
-    looks-near seen list next out found (fork _ after s a b more _ _ _ g fresh there is l) =
+    scans-near seen list next out found (done _ _) = done seen next
+    scans-near seen list next out found (again _ s more _ _ _ is l) =
+        again seen s more next out (placed i found) is (scans-near seen more next out found l)
+    scans-near seen list next out found (fork _ after s a b more _ _ _ g fresh there is l) =
         fork seen after s a b more next out (placed i found) g fresh (there.0, low, omega (arith, within)) is
-        (looks-near after (a ∷ b ∷ more) next out found l)
-    looks-near seen list next out found (single _ after s t more _ _ _ g fresh there rejected no_fork leads only l) =
+        (scans-near after (a ∷ b ∷ more) next out found l)
+    scans-near seen list next out found (single _ after s t more _ _ _ g fresh there rejected no_fork leads only l) =
         single seen after s t more next out (placed i found) g fresh (there.0, low, omega (arith, within)) rejected no_fork ((n.follows s t).1 leads)
         (λ q step. ⊎_elim
         (λ h. same_place q (t, i) (ap (λ (r : ℕ × ℕ). r.0) (only (q.0, at) h.1)) h.0)
         (λ h. absurd (omega (arith, ap (λ (r : ℕ × ℕ). r.1) (only (q.0, at + 1) h.1))))
         (led s q step))
-        (looks-near after (t ∷ more) next out found l)
-    looks-near seen list next out found (stuck _ after s more _ _ _ g rejected none l) =
+        (scans-near after (t ∷ more) next out found l)
+    scans-near seen list next out found (stuck _ after s more _ _ _ g rejected none l) =
         stuck seen after s more next out (placed i found) g rejected
         (λ q step. ⊎_elim (λ h. none (q.0, at) h.1) (λ h. none (q.0, at + 1) h.1) (led s q step))
-        (looks-near after more next out found l)
-    looks-near seen list next out found (over _ after s t more _ new _ _ g fresh there rejected no_fork leads only is l) =
+        (scans-near after more next out found l)
+    scans-near seen list next out found (over _ after s t more _ new _ _ g fresh there rejected no_fork leads only is l) =
         over seen after s t more next new out (placed i found) g fresh (there.0, low, omega (arith, within)) rejected no_fork
         ((n.moves s t within).1 leads)
         (λ q step. ⊎_elim
         (λ h. absurd (omega (arith, ap (λ (r : ℕ × ℕ). r.1) (only (q.0, at) h.1))))
         (λ h. same_place q (t, i + 1) (ap (λ (r : ℕ × ℕ). r.0) (only (q.0, at + 1) h.1)) h.0)
         (led s q step)) is
-        (looks-near after more new out found l)
-    looks-near seen list next out found (matched _ s more _ fresh there accepted) =
+        (scans-near after more new out found l)
+    scans-near seen list next out found (matched _ s more _ fresh there accepted) =
         matched seen s more next fresh (there.0, low, omega (arith, within)) accepted
 
   -- at the span's end no step leads over the byte beyond it, so only what is found is the same
@@ -74,29 +74,29 @@ module _ (e : Search) (i : ℕ) (near : List ℕ) (at : ℕ) (n : IsNear e i nea
         (λ (h : (q.1 ≡ i + 1) × (i < e.end)). absurd (omega (arith, h.1, at_end)))
         (step_goes e (s, i) q l)
 
-    pub looks-end : (seen : ℕ → Bool) (list next out : List ℕ) (found : Option (ℕ × ℕ)) → Scans small at seen list next out found
+    pub scans-end : (seen : ℕ → Bool) (list next out : List ℕ) (found : Option (ℕ × ℕ)) → Scans small at seen list next out found
         → (next2 : List ℕ) → (out2 : List ℕ) × Scans e i seen list next2 out2 (placed i found)
-    looks-end seen list next out found (done _ _) next2 = (next2, done seen next2)
-    looks-end seen list next out found (again _ s more _ _ _ is l) next2 =
-        let rest = looks-end seen more next out found l next2 in (rest.0, again seen s more next2 rest.0 (placed i found) is rest.1)
-    looks-end seen list next out found (fork _ after s a b more _ _ _ g fresh there is l) next2 =
-        let rest = looks-end after (a ∷ b ∷ more) next out found l next2 in
+    scans-end seen list next out found (done _ _) next2 = (next2, done seen next2)
+    scans-end seen list next out found (again _ s more _ _ _ is l) next2 =
+        let rest = scans-end seen more next out found l next2 in (rest.0, again seen s more next2 rest.0 (placed i found) is rest.1)
+    scans-end seen list next out found (fork _ after s a b more _ _ _ g fresh there is l) next2 =
+        let rest = scans-end after (a ∷ b ∷ more) next out found l next2 in
         (rest.0, fork seen after s a b more next2 rest.0 (placed i found) g fresh (there.0, low, omega (arith, at_end)) is rest.1)
-    looks-end seen list next out found (single _ after s t more _ _ _ g fresh there rejected no_fork leads only l) next2 =
-        let rest = looks-end after (t ∷ more) next out found l next2 in (
+    scans-end seen list next out found (single _ after s t more _ _ _ g fresh there rejected no_fork leads only l) next2 =
+        let rest = scans-end after (t ∷ more) next out found l next2 in (
           rest.0,
           single seen after s t more next2 rest.0 (placed i found) g fresh (there.0, low, omega (arith, at_end)) rejected no_fork ((n.follows s t).1 leads)
               (λ q step. same_place q (t, i) (ap (λ (r : ℕ × ℕ). r.0) (only (q.0, at) (led_end s q step).1)) (led_end s q step).0)
               rest.1,
         )
-    looks-end seen list next out found (stuck _ after s more _ _ _ g rejected none l) next2 =
-        let rest = looks-end after more next out found l next2 in
+    scans-end seen list next out found (stuck _ after s more _ _ _ g rejected none l) next2 =
+        let rest = scans-end after more next out found l next2 in
         (rest.0, stuck seen after s more next2 rest.0 (placed i found) g rejected (λ q step. none (q.0, at) (led_end s q step).1) rest.1)
-    looks-end seen list next out found (over _ after s t more _ new _ _ g fresh there rejected no_fork leads only is l) next2 =
-        let rest = looks-end after more new out found l next2 in (
+    scans-end seen list next out found (over _ after s t more _ new _ _ g fresh there rejected no_fork leads only is l) next2 =
+        let rest = scans-end after more new out found l next2 in (
           rest.0,
           stuck seen after s more next2 rest.0 (placed i found) g rejected
               (λ q step. absurd (omega (arith, ap (λ (r : ℕ × ℕ). r.1) (only (q.0, at) (led_end s q step).1)))) rest.1,
         )
-    looks-end seen list next out found (matched _ s more _ fresh there accepted) next2 =
+    scans-end seen list next out found (matched _ s more _ fresh there accepted) next2 =
         (next2, matched seen s more next2 fresh (there.0, low, omega (arith, at_end)) accepted)

@@ -1,4 +1,4 @@
--- A look at a list, as its stack goes down.
+-- A scan of a list, as its stack goes down.
 use Rattle.std.proofs.Common.{◌≡◌, ℕ, ◌+◌, ◌-◌, ◌<◌, ◌≤◌, ◌⊎◌, inl, inr, ⊎_elim, Bool, true, false, cond, not, count_by, replicate, length-append, true≢false, List, [], ◌∷◌, ◌++◌, length, reverse, get_or, set, refl, sym, ap, subst, ◌∙◌, arith, Option, Some, None}
 use Rattle.std.proofs.lemmas.Bool.{cases_eq, cases_lt}
 use Rattle.std.proofs.lemmas.List.Sums.{sum_by-set}
@@ -10,8 +10,8 @@ use Rattle.rsc_engine.specs.Searches.{Search}
 use Rattle.rsc_engine.specs.Runs.{IsPlace}
 use Rattle.rsc_engine.specs.DecidesLayout.{IsMore}
 use Rattle.rsc_engine.specs.PassesLayout.{Scans, done, again, fork, single, stuck, over, matched}
-use Rattle.rsc_engine.specs.OrderedLayout.{IsWayOn, IsLooked, seen_by}
-use Rattle.rsc_engine.specs.declared.dfa.ordered.Way.TheVariants.{Stuck, One, Over, Two, Match}
+use Rattle.rsc_engine.specs.OrderedLayout.{IsActionOf, IsScanned, seen_by}
+use Rattle.rsc_engine.specs.declared.dfa.ordered.Action.TheVariants.{Stuck, One, OverByte, Two, Match}
 use Rattle.rsc_engine.proofs.ForwardStepsLemmas.{same_place}
 
 more-marked : (marks : List Bool) (s : ℕ) → s < length marks → IsMore (seen_by marks) s (seen_by (set marks s true))
@@ -55,7 +55,7 @@ Gathers-more seen list s g l = record {
 reverse-last : (stack : List ℕ) (s : ℕ) → reverse (stack ++ s ∷ []) ≡ s ∷ reverse stack
 reverse-last stack s = reverse-append stack (s ∷ [])
 
--- what was looked at so far leads to where a look at what is on the stack leads
+-- what was looked at so far leads to where a scan of what is on the stack leads
 pub record IsTraced (e : Search) (i : ℕ) (list : List ℕ) (marks : List Bool) (stack next : List ℕ) : Type 0 where
   pub seen : ℕ → Bool
   pub none_seen : (s : ℕ) → seen s ≡ false
@@ -79,39 +79,40 @@ module _ (e : Search) (i : ℕ) (list : List ℕ) (marks : List Bool) (stack nex
   traced-again is = on marks stack next (λ out found looks. again (seen_by marks) s (reverse stack) next out found is looks)
 
   module _ (fresh : get_or marks s false ≡ false) (there : IsPlace e (s, i)) where
-    pub traced-stuck : IsWayOn e i s Stuck → IsTraced e i list (set marks s true) stack next
+    pub traced-stuck : IsActionOf e i s Stuck → IsTraced e i list (set marks s true) stack next
     traced-stuck way = on (set marks s true) stack next (λ out found looks.
         stuck (seen_by marks) (seen_by (set marks s true)) s (reverse stack) next out found (more-marked marks s l) way.0 way.1 looks)
 
-    pub traced-one : (to : ℕ) → IsWayOn e i s (One to) → IsTraced e i list (set marks s true) (stack ++ to ∷ []) next
+    pub traced-one : (to : ℕ) → IsActionOf e i s (One to) → IsTraced e i list (set marks s true) (stack ++ to ∷ []) next
     traced-one to way = on (set marks s true) (stack ++ to ∷ []) next (λ out found looks.
         single (seen_by marks) (seen_by (set marks s true)) s to (reverse stack) next out found (more-marked marks s l) fresh there way.0 way.1 way.2
         (λ q leads. let w = way.3 q leads in same_place q (to, i) w.0 w.1)
         (subst (λ (x : List ℕ). Scans e i (seen_by (set marks s true)) x next out found) (reverse-last stack to) looks))
 
-    pub traced-over : (to : ℕ) (new : List ℕ) → IsWayOn e i s (Over to) → AddsOne next to new → IsTraced e i list (set marks s true) stack new
+    pub traced-over : (to : ℕ) (new : List ℕ) → IsActionOf e i s (OverByte to) → AddsOne next to new → IsTraced e i list (set marks s true) stack new
     traced-over to new way adds = on (set marks s true) stack new (λ out found looks.
         over (seen_by marks) (seen_by (set marks s true)) s to (reverse stack) next new out found (more-marked marks s l) fresh there way.0 way.1 way.2
         (λ q leads. let w = way.3 q leads in same_place q (to, i + 1) w.0 w.1) adds looks)
 
-    pub traced-two : (a b : ℕ) → IsWayOn e i s (Two a b) → IsTraced e i list (set marks s true) ((stack ++ b ∷ []) ++ a ∷ []) next
+    pub traced-two : (a b : ℕ) → IsActionOf e i s (Two a b) → IsTraced e i list (set marks s true) ((stack ++ b ∷ []) ++ a ∷ []) next
     traced-two a b way = on (set marks s true) ((stack ++ b ∷ []) ++ a ∷ []) next (λ out found looks.
         fork (seen_by marks) (seen_by (set marks s true)) s a b (reverse stack) next out found (more-marked marks s l) fresh there way
         (subst (λ (x : List ℕ). Scans e i (seen_by (set marks s true)) x next out found)
         (reverse-last (stack ++ b ∷ []) a ∙ ap (λ (x : List ℕ). a ∷ x) (reverse-last stack b)) looks))
 
-    pub traced-match : (p : ℕ) → IsWayOn e i s (Match p) → IsLooked e i list (Some p) next
+    pub traced-match : (p : ℕ) → IsActionOf e i s (Match p) → IsScanned e i list (Some p) next
     traced-match p way = record {
       seen = t.seen;
       none_seen = t.none_seen;
       found = Some (s, i);
-      looks = t.trace next (Some (s, i))
+      scans = t.trace next (Some (s, i))
           (subst (λ (x : List ℕ). Scans e i (seen_by marks) x next next (Some (s, i))) (sym (reverse-last stack s))
           (matched (seen_by marks) s (reverse stack) next fresh there way.0));
       of_pattern = (way.1, refl);
     }
 
-pub traced-first : (e : Search) (i : ℕ) (list : List ℕ) (marks : List Bool) (stack : List ℕ) → reverse stack ≡ list → ((s : ℕ) → get_or marks s false ≡ false)
+pub traced-first : (e : Search) (i : ℕ) (list : List ℕ) (marks : List Bool) (stack : List ℕ) → reverse stack ≡ list
+    → ((s : ℕ) → get_or marks s false ≡ false)
     → IsTraced e i list marks stack []
 traced-first e i list marks stack same none = record {
   seen = seen_by marks;
@@ -119,13 +120,14 @@ traced-first e i list marks stack same none = record {
   trace = λ out found looks. subst (λ (x : List ℕ). Scans e i (seen_by marks) x [] out found) same looks;
 }
 
-pub traced-last : (e : Search) (i : ℕ) (list : List ℕ) (marks : List Bool) (stack next : List ℕ) → length stack ≡ 0 → IsTraced e i list marks stack next
-    → IsLooked e i list None next
+pub traced-last : (e : Search) (i : ℕ) (list : List ℕ) (marks : List Bool) (stack next : List ℕ) → length stack ≡ 0
+    → IsTraced e i list marks stack next
+    → IsScanned e i list None next
 traced-last e i list marks [] next none t = record {
   seen = t.seen;
   none_seen = t.none_seen;
   found = None;
-  looks = t.trace next None (done (seen_by marks) next);
+  scans = t.trace next None (done (seen_by marks) next);
   of_pattern = tt;
 }
 traced-last e i list marks (s ∷ stack) next none t = absurd (omega (arith, none))
@@ -226,7 +228,7 @@ module _ (e : Search) (i : ℕ) (list : List ℕ) (n : ℕ) (marks taken : List 
     len_after : length (set marks s true) ≡ n
     len_after = length-set marks s true ∙ f.len
 
-    pub stack-stuck : IsWayOn e i s Stuck → IsStack e i list n (set marks s true) taken stack next
+    pub stack-stuck : IsActionOf e i s Stuck → IsStack e i list n (set marks s true) taken stack next
     stack-stuck way = record {
       len = len_after;
       taken_len = f.taken_len;
@@ -235,7 +237,7 @@ module _ (e : Search) (i : ℕ) (list : List ℕ) (n : ℕ) (marks taken : List 
       traced = traced-stuck e i list marks stack next s marked trace fresh there way;
     }
 
-    pub stack-one : (to : ℕ) → IsWayOn e i s (One to) → to < n → IsStack e i list n (set marks s true) taken (stack ++ to ∷ []) next
+    pub stack-one : (to : ℕ) → IsActionOf e i s (One to) → to < n → IsStack e i list n (set marks s true) taken (stack ++ to ∷ []) next
     stack-one to way l = record {
       len = len_after;
       taken_len = f.taken_len;
@@ -244,7 +246,7 @@ module _ (e : Search) (i : ℕ) (list : List ℕ) (n : ℕ) (marks taken : List 
       traced = traced-one e i list marks stack next s marked trace fresh there to way;
     }
 
-    pub stack-two : (a b : ℕ) → IsWayOn e i s (Two a b) → (a < n) × (b < n)
+    pub stack-two : (a b : ℕ) → IsActionOf e i s (Two a b) → (a < n) × (b < n)
         → IsStack e i list n (set marks s true) taken ((stack ++ b ∷ []) ++ a ∷ []) next
     stack-two a b way l = record {
       len = len_after;
@@ -254,7 +256,8 @@ module _ (e : Search) (i : ℕ) (list : List ℕ) (n : ℕ) (marks taken : List 
       traced = traced-two e i list marks stack next s marked trace fresh there a b way;
     }
 
-    pub stack-over : (to : ℕ) (taken2 : List Bool) (new : List ℕ) → IsWayOn e i s (Over to) → length taken2 ≡ length taken → Gathers taken2 new
+    pub stack-over : (to : ℕ) (taken2 : List Bool) (new : List ℕ) → IsActionOf e i s (OverByte to) → length taken2 ≡ length taken
+        → Gathers taken2 new
         → AddsOne next to new → IsStack e i list n (set marks s true) taken2 stack new
     stack-over to taken2 new way same g adds = record {
       len = len_after;
@@ -264,14 +267,16 @@ module _ (e : Search) (i : ℕ) (list : List ℕ) (n : ℕ) (marks taken : List 
       traced = traced-over e i list marks stack next s marked trace fresh there to new way adds;
     }
 
-    pub stack-match : (p : ℕ) → IsWayOn e i s (Match p) → IsLooked e i list (Some p) next
+    pub stack-match : (p : ℕ) → IsActionOf e i s (Match p) → IsScanned e i list (Some p) next
     stack-match p way = traced-match e i list marks stack next s marked trace fresh there p way
 
-pub stack-last : (e : Search) (i : ℕ) (list : List ℕ) (n : ℕ) (marks taken : List Bool) (stack next : List ℕ) → IsStack e i list n marks taken stack next
-    → length stack ≡ 0 → IsLooked e i list None next
+pub stack-last : (e : Search) (i : ℕ) (list : List ℕ) (n : ℕ) (marks taken : List Bool) (stack next : List ℕ)
+    → IsStack e i list n marks taken stack next
+    → length stack ≡ 0 → IsScanned e i list None next
 stack-last e i list n marks taken stack next f none = traced-last e i list marks stack next none f.traced
 
-pub stack-states : (e : Search) (i : ℕ) (list : List ℕ) (n : ℕ) (marks taken : List Bool) (stack next : List ℕ) → IsStack e i list n marks taken stack next
+pub stack-states : (e : Search) (i : ℕ) (list : List ℕ) (n : ℕ) (marks taken : List Bool) (stack next : List ℕ)
+    → IsStack e i list n marks taken stack next
     → AreStates n next
 stack-states e i list n marks taken stack next f = λ k d l.
     subst (λ (m : ℕ). get_or next k d < m) f.taken_len (f.gathers.listed (get_or next k d) (Contains-get_or next k d l)).0

@@ -6,7 +6,7 @@ use Rattle.rsc_engine.specs.Patterns.{Pattern, Repeat, in_order, one_of, may_be_
 use Rattle.rsc_engine.specs.FirstEnds.{loops_take_bytes}
 use Rattle.rsc_engine.specs.GroupNumbers.{count_groups}
 use Rattle.rsc_engine.specs.Parts.{pattern_of}
-use Rattle.rsc_engine.proofs.NamesLayoutLemmas.{or_none}
+use Rattle.rsc_engine.proofs.StatesLayoutLemmas.{or_none}
 use Rattle.rsc_engine.specs.declared.builder.part.Part.{Part}
 
 -- ---- one more pattern at the end of a list

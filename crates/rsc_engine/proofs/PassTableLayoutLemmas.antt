@@ -13,13 +13,13 @@ use Rattle.rsc_search.specs.declared.anchored.Anchored.{Anchored}
 use Rattle.rsc_engine.specs.declared.dfa.pass_table.PassRow.{PassRow}
 use Rattle.rsc_engine.specs.declared.dfa.beyond.BeyondStep.{BeyondStep}
 use Rattle.rsc_engine.specs.declared.dfa.entries.Lead.{Lead}
-use Rattle.rsc_engine.specs.declared.dfa.entries.Lead.TheVariants.{Unknown, To, Marked, Last}
+use Rattle.rsc_engine.specs.declared.dfa.entries.Lead.TheVariants.{Unknown, To, WithMatch}
 use Rattle.rsc_engine.specs.Searches.{Search}
 use Rattle.rsc_engine.specs.LawfulLayout.{Lawful}
 use Rattle.rsc_engine.specs.RowsLayout.{Machine, machine_of, Alike, IsPlan, IsPlainUnit}
 use Rattle.rsc_engine.specs.ForwardLayout.{found_in}
 use Rattle.rsc_engine.specs.BackwardLayout.{begins_in}
-use Rattle.rsc_engine.specs.PassTableLayout.{column, row_of, plain_row_of, IsPassRow, IsPassStep, IsPassLed, IsPassTo, IsSoundPassRow, IsUnmarked, IsPassStepAt, AreHolding, unit_at, IsBeyondTo, IsBeyondStep, IsBeyondAt, AreFew, IsPassTable, IsPassGrown}
+use Rattle.rsc_engine.specs.PassTableLayout.{column, row_of, plain_row_of, IsPassRow, IsPassStep, IsPassLed, IsPassTo, IsSoundPassRow, KnowsNoMatch, IsPassStepAt, AreHolding, unit_at, IsBeyondTo, IsBeyondStep, IsBeyondAt, AreFew, IsPassTable, IsPassGrown}
 use Rattle.rsc_engine.proofs.LawfulLayoutLemmas.{Alike-self, Alike-trans}
 
 -- ---- a search
@@ -129,7 +129,8 @@ IsPassTo-alike m classes old new row unit other next a x = record {
 }
 
 -- the same of a step beside a byte above 7F
-pub IsBeyondTo-kept : (m : Machine) (classes : List ℕ) (old new : List PassRow) (row : ℕ) (unit : Option ℕ) (looks : Looks) (next : ℕ) → IsPassGrown old new
+pub IsBeyondTo-kept : (m : Machine) (classes : List ℕ) (old new : List PassRow) (row : ℕ) (unit : Option ℕ) (looks : Looks) (next : ℕ)
+    → IsPassGrown old new
     → IsBeyondTo m classes old new row unit looks next → IsBeyondTo m classes new new row unit looks next
 IsBeyondTo-kept m classes old new row unit looks next g x = record {
   from = x.from;
@@ -147,7 +148,8 @@ IsBeyondTo-kept m classes old new row unit looks next g x = record {
   step = x.step;
 }
 
-IsBeyondTo-grown : (m : Machine) (classes : List ℕ) (old new : List PassRow) (row : ℕ) (unit : Option ℕ) (looks : Looks) (next : ℕ) → IsPassGrown old new
+IsBeyondTo-grown : (m : Machine) (classes : List ℕ) (old new : List PassRow) (row : ℕ) (unit : Option ℕ) (looks : Looks) (next : ℕ)
+    → IsPassGrown old new
     → IsBeyondTo m classes old old row unit looks next → IsBeyondTo m classes new new row unit looks next
 IsBeyondTo-grown m classes old new row unit looks next g x = IsBeyondTo-kept m classes old new row unit looks next g (record {
   from = x.from;
@@ -210,20 +212,20 @@ empty-table m classes width most rows leads beyond none nothing no_step = rw (no
 
 -- an entry that leads to a row that isn't marked does so when the rows have grown
 plain-push : (m : Machine) (classes : List ℕ) (rows : List PassRow) (row : PassRow) (k : ℕ) (unit : Option ℕ) (lead : Lead)
-    → IfSome (row_of lead) (IsPassTo m classes rows rows k unit) → IfSome (plain_row_of lead) (λ next. IsUnmarked (slice_get rows next))
-    → IfSome (plain_row_of lead) (λ next. IsUnmarked (slice_get (rows ++ row ∷ []) next))
+    → IfSome (row_of lead) (IsPassTo m classes rows rows k unit) → IfSome (plain_row_of lead) (λ next. KnowsNoMatch (slice_get rows next))
+    → IfSome (plain_row_of lead) (λ next. KnowsNoMatch (slice_get (rows ++ row ∷ []) next))
 plain-push m classes rows row k unit Unknown to x = tt
-plain-push m classes rows row k unit (To next) to x = subst (λ (o : Option PassRow). IsUnmarked o)
+plain-push m classes rows row k unit (To next) to x = subst (λ (o : Option PassRow). KnowsNoMatch o)
     (to.leads.is_row.there ∙ sym (get_before rows row to.leads.is_row.to next to.leads.is_row.there)) x
-plain-push m classes rows row k unit (Marked next) to x = tt
-plain-push m classes rows row k unit (Last next) to x = tt
+plain-push m classes rows row k unit (WithMatch next) to x = tt
 
-pub plain-made : (rows : List PassRow) (next : ℕ) (marked : Bool) (o : Option ℕ) → (marked ≡ false → IsUnmarked (slice_get rows next))
-    → IfSome o (λ n. (n ≡ next) × (marked ≡ false)) → IfSome o (λ n. IsUnmarked (slice_get rows n))
+pub plain-made : (rows : List PassRow) (next : ℕ) (marked : Bool) (o : Option ℕ) → (marked ≡ false → KnowsNoMatch (slice_get rows next))
+    → IfSome o (λ n. (n ≡ next) × (marked ≡ false)) → IfSome o (λ n. KnowsNoMatch (slice_get rows n))
 plain-made rows next marked None none x = tt
-plain-made rows next marked (Some n) none x = subst (λ (k : ℕ). IsUnmarked (slice_get rows k)) (sym x.0) (none x.1)
+plain-made rows next marked (Some n) none x = subst (λ (k : ℕ). KnowsNoMatch (slice_get rows k)) (sym x.0) (none x.1)
 
-pub IsPassTable-wider : (m : Machine) (classes : List ℕ) (width most : ℕ) (rows : List PassRow) (leads wider : List Lead) (beyond : List (Option BeyondStep))
+pub IsPassTable-wider : (m : Machine) (classes : List ℕ) (width most : ℕ) (rows : List PassRow) (leads wider : List Lead)
+    (beyond : List (Option BeyondStep))
     → IsPassTable m classes width most rows leads beyond → ((i : ℕ) → slice_index_or wider i Unknown ≡ slice_index_or leads i Unknown)
     → length leads ≤ length wider → IsPassTable m classes width most rows wider beyond
 IsPassTable-wider m classes width most rows leads wider beyond x same longer = record {
@@ -255,7 +257,7 @@ pub IsPassTable-set : (law : AreApart) (m : Machine) (classes : List ℕ) (width
     (beyond : List (Option BeyondStep)) (row entry : ℕ) (unit : Option ℕ) (next : ℕ) (lead : Lead) → IsPassTable m classes width most rows leads beyond
     → width ≡ symbol_count classes → LastClassIsGreatest classes
     → IfSome unit (λ b. b < 256) → IsPassTo m classes rows rows row unit next → (row_of lead ≡ None) ⊎ (row_of lead ≡ Some next)
-    → IfSome (plain_row_of lead) (λ n. IsUnmarked (slice_get rows n))
+    → IfSome (plain_row_of lead) (λ n. KnowsNoMatch (slice_get rows n))
     → entry ≡ row * width + column classes unit → entry < length leads → IsPassTable m classes width most rows (set leads entry lead) beyond
 IsPassTable-set law m classes width most rows leads beyond row entry unit next lead x columns bounded byte s says unmarked at below = record {
   few = x.few;
@@ -340,18 +342,19 @@ sound_at m rows k row all there =
     subst (IsSoundPassRow m) (get_or_from_slice_get rows k row row there) (all k row (slice_get_within rows k row there))
 
 -- the row to which an entry leads is there
-pub led-there : (m : Machine) (classes : List ℕ) (old new : List PassRow) (row : ℕ) (unit : Option ℕ) (next : ℕ) → IsPassTo m classes old new row unit next
+pub led-there : (m : Machine) (classes : List ℕ) (old new : List PassRow) (row : ℕ) (unit : Option ℕ) (next : ℕ)
+    → IsPassTo m classes old new row unit next
     → next < length new
 led-there m classes old new row unit next x = slice_get_within new next x.leads.is_row.to x.leads.is_row.there
 
 -- ---- a row that isn't marked
 
-pub unmarked-none : (o : Option PassRow) → IsUnmarked o → found_in o ≡ None
-unmarked-none None x = refl
-unmarked-none (Some row) x = x.0
+pub no_match-none : (o : Option PassRow) → KnowsNoMatch o → found_in o ≡ None
+no_match-none None x = refl
+no_match-none (Some row) x = x.0
 
-pub unmarked-begins : (o : Option PassRow) (row : PassRow) → o ≡ Some row → row.backward ≡ true → IsUnmarked o → begins_in o ≡ false
-unmarked-begins None row is back x = refl
-unmarked-begins (Some other) row is back x =
+pub no_match-begins : (o : Option PassRow) (row : PassRow) → o ≡ Some row → row.backward ≡ true → KnowsNoMatch o → begins_in o ≡ false
+no_match-begins None row is back x = refl
+no_match-begins (Some other) row is back x =
     let same : other ≡ row = some_same other row is in
     x.1 (subst (λ (r : PassRow). r.backward ≡ true) (sym same) back)

@@ -19,7 +19,8 @@ adds : (e : Search) (i : ℕ) (claim : ℕ × ℕ → Type 0) (rest other : Type
     → Decides e i unseen claim rest next → (rest → Decides e i unseen claim other (t ∷ [])) → Decides e i unseen claim other new
 adds e i claim rest other next t new (inl is) d f =
     subst (λ (l : List ℕ). Decides e i unseen claim other l) (sym is)
-    (decides-append e i claim unseen other next (t ∷ []) (decides-rest e i claim unseen rest (Decides e i unseen claim other (t ∷ [])) next d (λ all r. f r)))
+    (decides-append e i claim unseen other next (t ∷ [])
+    (decides-rest e i claim unseen rest (Decides e i unseen claim other (t ∷ [])) next d (λ all r. f r)))
 adds e i claim rest other next t new (inr is) d f =
     subst (λ (l : List ℕ). Decides e i unseen claim other l) (sym is.0)
     (decides-rest e i claim unseen rest other next d (λ all r. (f r).1 (hopeless-of e i claim unseen next t all is.1)))
@@ -53,20 +54,23 @@ looks e i claim rest seen list next out found (matched _ s more _ fresh there ac
     (λ all r. decides-match e i claim seen s rest more fresh there accepted r)
 
 -- after the end of the span nothing decides
-pub beyond : (e : Search) (j : ℕ) (claim : ℕ × ℕ → Type 0) (rest : Type 0) (list : List ℕ) → e.end < j → Decides e j unseen claim rest list → rest
+pub beyond : (e : Search) (j : ℕ) (claim : ℕ × ℕ → Type 0) (rest : Type 0) (list : List ℕ) → e.end < j → Decides e j unseen claim rest list
+    → rest
 beyond e j claim rest [] past d = d
 beyond e j claim rest (t ∷ list) past d = beyond e j claim rest list past (d.1 (λ run m.
     let within : (place run 0).1 ≤ e.end = (m.is_match.is_run.places 0 m.is_match.some).2 in
     omega (arith, within, past, ap (λ (q : ℕ × ℕ). q.1) m.is_match.begins)))
 
 -- what is so if a pass finds no more
-pub settled : (e : Search) (i : ℕ) (status : Status) → e.mode ≡ No ⊎ (¬ (status ≡ Open)) → e.end ≤ i → IsLeftOver e i status → IsFound e (answer_of status)
+pub settled : (e : Search) (i : ℕ) (status : Status) → e.mode ≡ No ⊎ (¬ (status ≡ Open)) → e.end ≤ i → IsLeftOver e i status
+    → IsFound e (answer_of status)
 settled e i (Closed last) free past r = r
 settled e i Open (inr apart) past r = absurd (apart refl)
 settled e i Open (inl free) past r = λ at may. r at may.start (omega (arith, may.end, past))
 
--- a look at a list that is due
-pub looked : (e : Search) (i : ℕ) (status : Status) (list out : List ℕ) (found : Option (ℕ × ℕ)) (seen : ℕ → Bool) → ((s : ℕ) → seen s ≡ false)
+-- a scan of a list that is due
+pub looked : (e : Search) (i : ℕ) (status : Status) (list out : List ℕ) (found : Option (ℕ × ℕ)) (seen : ℕ → Bool)
+    → ((s : ℕ) → seen s ≡ false)
     → Scans e i seen list [] out found → IsDue e i status list → Decides e (i + 1) unseen (IsLastPlace e) (IsLeftOver e i (later status found)) out
 looked e i status list out found seen none l d = go found
     (looks e i (IsLastPlace e) (IsLeftOver e i status) seen list [] out found l (decides-unseen e i (IsLastPlace e) seen (IsLeftOver e i status) list none d))

@@ -6,10 +6,10 @@ use Rattle.rsc_nfa.specs.declared.state.State.TheVariants.{ByteRange, Assert, Fo
 use Rattle.rsc_nfa.specs.Steps.{StepsTo, place, recorded}
 use Rattle.rsc_engine.specs.Preferred.{IsOnce, IsPreferred}
 use Rattle.rsc_engine.specs.Patterns.{Subject, Pattern, subject_of}
-use Rattle.rsc_engine.specs.LinksLayout.{Ends}
+use Rattle.rsc_engine.specs.LinksLayout.{StepsLead}
 use Rattle.rsc_engine.specs.StepsLayout.{AreSteps, last_place}
 use Rattle.rsc_engine.specs.WaysLayout.{StepsBefore, finish, recorded_by}
-use Rattle.rsc_engine.specs.Courses.{Stand, chosen, IsNew, begin, IsFirstNew}
+use Rattle.rsc_engine.specs.Courses.{Stand, chosen, IsUnmade, fresh, IsFirstOnce}
 use Rattle.rsc_engine.specs.PreferredWays.{IsPreferredWay}
 use Rattle.rsc_engine.specs.PathsLayout.{by_state, PathLeads, IsPath, Before, Least, arrive, places, IsPathOf}
 use Rattle.rsc_engine.proofs.CoursesLayoutLemmas.{path_within}
@@ -55,7 +55,7 @@ path_accepts states x end m f s [] p = p.0
 path_accepts states x end m f s (g ∷ rest) p = path_accepts states x end m g (by_state (slice_get states f) f s) rest p.1
 
 pub path_ends : (states : List State) (x : Subject) (end m f : ℕ) (s : Stand) (rest : List ℕ) → IsPath states x end m f s rest
-    → Ends states (record { text = x; end = end; pattern = m; position = (arrive states f s rest).1.at }) (length rest) f s.at
+    → StepsLead states (record { subject = x; end = end; pattern = m; position = (arrive states f s rest).1.at }) (length rest) f s.at
 path_ends states x end m f s [] p = (p.0, refl, p.1)
 path_ends states x end m f s (g ∷ rest) p = (
   path_within states x end m f s (g ∷ rest) p,
@@ -145,7 +145,8 @@ not_again states x end m f w a b s (g ∷ rest) is p made (suc k) l e =
     absurd (omega (arith, z, later, here)))
     (stays_made (slice_get states f) x end f w g s p.0)
 
-pub path_forks : (states : List State) (x : Subject) (end m f : ℕ) (s : Stand) (rest : List ℕ) → IsPath states x end m f s rest → (j k a b : ℕ) → j < k
+pub path_forks : (states : List State) (x : Subject) (end m f : ℕ) (s : Stand) (rest : List ℕ) → IsPath states x end m f s rest → (j k a b : ℕ)
+    → j < k
     → k < length ((f, s.at) ∷ places states f s rest)
     → slice_get states (place ((f, s.at) ∷ places states f s rest) j).0 ≡ Some (Fork a b)
     → place ((f, s.at) ∷ places states f s rest) j ≡ place ((f, s.at) ∷ places states f s rest) k → ⊥
@@ -162,7 +163,7 @@ path_forks states x end m f s (g ∷ rest) p zero (suc k) a b before l is same =
 -- ---- from steps to a path
 
 -- a step from a state, if its choice is new
-leads_of : (o : Option State) (x : Subject) (end f : ℕ) (s : Stand) (q : ℕ × ℕ) → IsNew f s
+leads_of : (o : Option State) (x : Subject) (end f : ℕ) (s : Stand) (q : ℕ × ℕ) → IsUnmade f s
     → MatchOption o ⊥ (λ (y : State). StepsTo y x.terminator x.word_chars x.haystack end s.at q)
     → PathLeads o x end f s q.0 × (q.1 ≡ (by_state o f s).at)
 leads_of None x end f s q new step = absurd step
@@ -186,18 +187,20 @@ seen_then (Some (Accept r)) x end f g s seen leads h w c = absurd leads
 
 pub path_of : (states : List State) (x : Subject) (end m f : ℕ) (s : Stand) (rest seen : List (ℕ × ℕ))
     → ((w : ℕ) → Contains s.made w → IsAmong (w, s.at) seen)
-    → ((p : ℕ × ℕ) → IsAmong p seen → IsAmong p ((f, s.at) ∷ rest) → ⊥) → AreDistinct ((f, s.at) ∷ rest) → AreSteps states x end (f, s.at) rest
+    → ((p : ℕ × ℕ) → IsAmong p seen → IsAmong p ((f, s.at) ∷ rest) → ⊥) → AreDistinct ((f, s.at) ∷ rest)
+    → AreSteps states x end (f, s.at) rest
     → slice_get states (last_place (f, s.at) rest).0 ≡ Some (Accept m) → (last_place (f, s.at) rest).1 ≤ end → IsPathOf states x end m f s rest
 path_of states x end m f s [] seen made apart once steps accepted within = record { rest = []; path = (accepted, within); its = refl }
 path_of states x end m f s (q ∷ rest) seen made apart once steps accepted within =
-    let new : IsNew f s = λ c. apart (f, s.at) (made f c) (inl refl) in
+    let new : IsUnmade f s = λ c. apart (f, s.at) (made f c) (inl refl) in
     let leads = leads_of (slice_get states f) x end f s q new steps.0 in
     let next : Stand = by_state (slice_get states f) f s in
     let here : q ≡ (q.0, next.at) = ap (λ (i : ℕ). (q.0, i)) leads.1 in
     let on = path_of states x end m q.0 next rest ((f, s.at) ∷ seen)
     (seen_then (slice_get states f) x end f q.0 s seen leads.0 made)
     (λ p among there. ⊎_elim
-    (λ (e : p ≡ (f, s.at)). once.0 (subst (λ (z : ℕ × ℕ). IsAmong z (q ∷ rest)) e (subst (λ (z : ℕ × ℕ). IsAmong p (z ∷ rest)) (sym here) there)))
+    (λ (e : p ≡ (f, s.at)). once.0
+    (subst (λ (z : ℕ × ℕ). IsAmong z (q ∷ rest)) e (subst (λ (z : ℕ × ℕ). IsAmong p (z ∷ rest)) (sym here) there)))
     (λ (h : IsAmong p seen). apart p h (inr (subst (λ (z : ℕ × ℕ). IsAmong p (z ∷ rest)) (sym here) there)))
     among)
     (subst (λ (z : ℕ × ℕ). AreDistinct (z ∷ rest)) here once.1)
@@ -228,30 +231,31 @@ distinct_of (p ∷ rest) once = (
 -- the path of a preferred run, and that no other is before it
 record IsFirstPath (e : Search) (m i : ℕ) (steps : List (ℕ × ℕ)) : Type 0 where
   rest : List ℕ
-  least : Least e.states (subject_of e) e.end m e.start_state (begin i) rest
-  its : places e.states e.start_state (begin i) rest ≡ steps
+  least : Least e.states (subject_of e) e.end m e.start_state (fresh i) rest
+  its : places e.states e.start_state (fresh i) rest ≡ steps
 
 first_path : (e : Search) (m i : ℕ) (rest : List (ℕ × ℕ)) → IsPreferred e (e.start_state, i) ((e.start_state, i) ∷ rest)
-    → slice_get e.states (last_place (e.start_state, i) rest).0 ≡ Some (Accept m) → (last_place (e.start_state, i) rest).1 ≤ e.end → IsFirstPath e m i rest
+    → slice_get e.states (last_place (e.start_state, i) rest).0 ≡ Some (Accept m) → (last_place (e.start_state, i) rest).1 ≤ e.end
+    → IsFirstPath e m i rest
 first_path e m i rest preferred accepted within = record { rest = its.rest; least = record { path = its.path; least = first }; its = its.its }
   where
-    its : IsPathOf e.states (subject_of e) e.end m e.start_state (begin i) rest
-    its = path_of e.states (subject_of e) e.end m e.start_state (begin i) rest [] (λ w c. absurd (omega (arith, c.1))) (λ p h y. h)
+    its : IsPathOf e.states (subject_of e) e.end m e.start_state (fresh i) rest
+    its = path_of e.states (subject_of e) e.end m e.start_state (fresh i) rest [] (λ w c. absurd (omega (arith, c.1))) (λ p h y. h)
         (distinct_of ((e.start_state, i) ∷ rest) preferred.once) (steps_of e (e.start_state, i) rest preferred.is_match.is_run) accepted within
 
     run_of : List ℕ → List (ℕ × ℕ)
-    run_of other = (e.start_state, i) ∷ places e.states e.start_state (begin i) other
+    run_of other = (e.start_state, i) ∷ places e.states e.start_state (fresh i) other
 
-    match_of : (other : List ℕ) → IsPath e.states (subject_of e) e.end m e.start_state (begin i) other → IsMatchRun e (e.start_state, i) (run_of other)
+    match_of : (other : List ℕ) → IsPath e.states (subject_of e) e.end m e.start_state (fresh i) other → IsMatchRun e (e.start_state, i) (run_of other)
     match_of other p =
-        let steps : List (ℕ × ℕ) = places e.states e.start_state (begin i) other in
+        let steps : List (ℕ × ℕ) = places e.states e.start_state (fresh i) other in
         let there : slice_get e.states (last_place (e.start_state, i) steps).0 ≡ Some (Accept m) =
-        ap (λ (z : ℕ × ℕ). slice_get e.states z.0) (path_last e.states e.start_state (begin i) other)
-        ∙ path_accepts e.states (subject_of e) e.end m e.start_state (begin i) other p in
+        ap (λ (z : ℕ × ℕ). slice_get e.states z.0) (path_last e.states e.start_state (fresh i) other)
+        ∙ path_accepts e.states (subject_of e) e.end m e.start_state (fresh i) other p in
         record {
           is_run = is_run_of e (e.start_state, i) steps (slice_get_within e.states (last_place (e.start_state, i) steps).0 (Accept m) there)
               ((preferred.is_match.is_run.places 0 preferred.is_match.some).1) ((preferred.is_match.is_run.places 0 preferred.is_match.some).2)
-              (path_steps e.states (subject_of e) e.end m e.start_state (begin i) other p);
+              (path_steps e.states (subject_of e) e.end m e.start_state (fresh i) other p);
           some = omega arith;
           begins = refl;
           ends = subst (λ (z : ℕ × ℕ). accepts e z ≡ true) (sym (last_is (e.start_state, i) steps))
@@ -259,14 +263,14 @@ first_path e m i rest preferred accepted within = record { rest = its.rest; leas
               (subst (λ (z : ℕ × ℕ). accepts e z ≡ true) (last_is (e.start_state, i) rest) preferred.is_match.ends));
         }
 
-    first : (other : List ℕ) → IsPath e.states (subject_of e) e.end m e.start_state (begin i) other → Before e.states e.start_state other its.rest → ⊥
+    first : (other : List ℕ) → IsPath e.states (subject_of e) e.end m e.start_state (fresh i) other → Before e.states e.start_state other its.rest → ⊥
     first other p b =
         preferred.first (run_of other) (match_of other p)
         (forks_once e (e.start_state, i) (run_of other) (match_of other p)
-        (λ j k c d before l is same. path_forks e.states (subject_of e) e.end m e.start_state (begin i) other p j k c d before l is same))
-        (before_is e (e.start_state, i) (places e.states e.start_state (begin i) other) rest
-        (subst (λ (steps : List (ℕ × ℕ)). StepsBefore e.states (e.start_state, i) (places e.states e.start_state (begin i) other) steps) its.its
-        (before_places e.states e.start_state (begin i) other its.rest b)))
+        (λ j k c d before l is same. path_forks e.states (subject_of e) e.end m e.start_state (fresh i) other p j k c d before l is same))
+        (before_is e (e.start_state, i) (places e.states e.start_state (fresh i) other) rest
+        (subst (λ (steps : List (ℕ × ℕ)). StepsBefore e.states (e.start_state, i) (places e.states e.start_state (fresh i) other) steps) its.its
+        (before_places e.states e.start_state (fresh i) other its.rest b)))
 
 -- ---- its way
 
@@ -292,14 +296,14 @@ preferred_way e lists patterns (q ∷ rest) found p all preferred makes its =
     let within : (last_place from rest).1 ≤ e.end =
     subst (λ (z : ℕ × ℕ). z.1 ≤ e.end) (sym ended) ((preferred.is_match.is_run.places (length (q ∷ rest) - 1) (omega arith)).2) in
     let f = first_path e found.pattern q.1 rest (subst (λ (z : ℕ × ℕ). IsPreferred e from (z ∷ rest)) here preferred) accepted within in
-    let t = o.takes (subject_of e) e.end (begin q.1) f.rest f.least in (
+    let t = o.takes (subject_of e) e.end (fresh q.1) f.rest f.least in (
       t.0.records,
       (
         o.course,
         t.0,
-        subst (λ (i : ℕ). IsFirstNew (subject_of e) o.course.course (λ s. s.at ≤ e.end) (begin i) t.0) (sym makes.start) t.1,
+        subst (λ (i : ℕ). IsFirstOnce (subject_of e) o.course.course (λ s. s.at ≤ e.end) (fresh i) t.0) (sym makes.start) t.1,
         t.2
-            ∙ (ap (λ (z : ℕ × ℕ). z.1) (sym (path_last e.states e.start_state (begin q.1) f.rest))
+            ∙ (ap (λ (z : ℕ × ℕ). z.1) (sym (path_last e.states e.start_state (fresh q.1) f.rest))
             ∙ (ap (λ (steps : List (ℕ × ℕ)). (last_place from steps).1) f.its ∙ (ap (λ (z : ℕ × ℕ). z.1) ended ∙ sym makes.end))),
         refl,
       ),
@@ -307,7 +311,7 @@ preferred_way e lists patterns (q ∷ rest) found p all preferred makes its =
           ∙ (sym (or_none (recorded e.states (from ∷ rest) slot))
           ∙ (recorded_all e.states from rest [] slot
           ∙ (ap (λ (steps : List (ℕ × ℕ)). last_in (finish e.states from steps []).1 slot) (sym f.its)
-          ∙ (ap (λ (r : List (ℕ × ℕ)). last_in r slot) (path_records e.states e.start_state (begin q.1) f.rest)
+          ∙ (ap (λ (r : List (ℕ × ℕ)). last_in r slot) (path_records e.states e.start_state (fresh q.1) f.rest)
           ∙ ap (λ (r : List (ℕ × ℕ)). last_in r slot) (sym t.3))))),
     )
 

@@ -13,14 +13,14 @@ use Rattle.rsc_search.specs.Matches.{Matched}
 use Rattle.rsc_search.specs.Modes.{pattern_of_mode}
 use Rattle.rsc_engine.specs.Searches.{Search, Compiled, search_in}
 use Rattle.rsc_engine.specs.Runs.{IsMatchRun, HasNoMatch, IsMatchOf}
-use Rattle.rsc_engine.specs.Preferred.{IsPreferred, IsOf, IsFirstMatch, MayBegin, HasNone}
-use Rattle.rsc_engine.specs.NextMatches.{IsRepeated, IsSplitAt, IsPassed, MayBeNext, IsOver, IsNextMatch}
+use Rattle.rsc_engine.specs.Preferred.{IsPreferred, IsMatchWithRecords, IsFirstMatch, MayBegin, HasNoFirstMatch}
+use Rattle.rsc_engine.specs.NextMatches.{IsRepeatAt, IsSplitAt, IsLeftOutAt, MayBeNext, IsOver, IsNextMatch}
 use Rattle.rsc_engine.specs.Patterns.{Pattern, subject_of, IsMatchIn, HasRunOf, Recognizes}
 use Rattle.rsc_engine.specs.PatternOrder.{PrefersLesser, RecordsPreferredWays}
 use Rattle.rsc_engine.specs.Ways.{last_in}
 use Rattle.rsc_engine.specs.GroupNumbers.{as_whole}
 use Rattle.rsc_engine.specs.PreferredWays.{IsPreferredWay}
-use Rattle.rsc_engine.specs.PatternMatches.{NoneGoesOn, IsPreferredOf, HoldRecords, recorded_span, IsFirstOf, HasNoneOf, Repeats, Splits, PrefersThere, IsPassedOf, MayBeNextOf, IsNextOfAll, IsOverOf, IsBuiltOf}
+use Rattle.rsc_engine.specs.PatternMatches.{NoneGoesOn, IsPreferredOf, HoldRecords, recorded_span, IsFirstOf, HasNoneOf, Repeats, Splits, PrefersThere, IsLeftOutOf, MayBeNextOf, IsNextOf, IsOverOf, IsBuiltOf}
 use Rattle.rsc_engine.proofs.LawsLemmas.{accepted}
 use Rattle.rsc_engine.proofs.NextMatchesLemmas.{one_next, one_first}
 use Rattle.rsc_engine.proofs.PatternOrderLemmas.{Prefers, is_least}
@@ -35,7 +35,8 @@ pub record IsSearchOf (patterns : List Pattern) (lists : GroupLists) (e : Search
   pub prefers : Prefers e
   pub ways : (run : List (ℕ × ℕ)) (found : Matched) (p : Pattern) → IsPreferred e (e.start_state, (place run 0).1) run → IsMatchOf e run found →
       slice_get patterns found.pattern ≡ Some p →
-      (records : List (ℕ × ℕ)) × IsPreferredWay (subject_of e) (as_whole lists found.pattern p) (λ j. j ≤ e.end) found.span.start found.span.end records
+      (records : List (ℕ × ℕ))
+      × IsPreferredWay (subject_of e) (as_whole lists found.pattern p) (λ j. j ≤ e.end) found.span.start found.span.end records
       × ((slot : ℕ) → recorded e.states run slot ≡ last_in records slot)
 
 -- a preferred run makes the preferred match
@@ -67,11 +68,12 @@ there patterns lists e at run IsSuch its preferred such =
     (subst (λ (i : ℕ). IsPreferred e (e.start_state, i) run) (sym begins) preferred) makes in
     record { found = found; records = p.0; start = begins; preferred = p.1; is_such = such found makes }
 
-none_on : (patterns : List Pattern) (lists : GroupLists) (e : Search) (at : ℕ) → IsSearchOf patterns lists e → HasNoMatch e at → NoneGoesOn patterns e at
+none_on : (patterns : List Pattern) (lists : GroupLists) (e : Search) (at : ℕ) → IsSearchOf patterns lists e → HasNoMatch e at
+    → NoneGoesOn patterns e at
 none_on patterns lists e at its none = λ other same m.
     let r = (its.both other).1 m in none r.run (subst (λ (i : ℕ). IsMatchRun e (e.start_state, i) r.run) same r.is_match)
 
-repeated : (patterns : List Pattern) (lists : GroupLists) (e : Search) (last : Option ℕ) (at : ℕ) → IsSearchOf patterns lists e → IsRepeated e last at
+repeated : (patterns : List Pattern) (lists : GroupLists) (e : Search) (last : Option ℕ) (at : ℕ) → IsSearchOf patterns lists e → IsRepeatAt e last at
     → PrefersThere patterns lists e at (Repeats last)
 repeated patterns lists e last at its x =
     there patterns lists e at x.run (Repeats last) its x.preferred
@@ -80,12 +82,12 @@ repeated patterns lists e last at its x =
       there = x.repeats.there ∙ ap (λ (i : ℕ). Some i) (sym f.start);
     })
 
-passed_of : (patterns : List Pattern) (lists : GroupLists) (e : Search) (last : Option ℕ) (at : ℕ) → IsSearchOf patterns lists e → IsPassed e last at
-    → IsPassedOf patterns lists e last at
+passed_of : (patterns : List Pattern) (lists : GroupLists) (e : Search) (last : Option ℕ) (at : ℕ) → IsSearchOf patterns lists e → IsLeftOutAt e last at
+    → IsLeftOutOf patterns lists e last at
 passed_of patterns lists e last at its passed = ⊎_elim
     (λ (none : HasNoMatch e at). inl (none_on patterns lists e at its none))
     (λ why. inr (⊎_elim
-    (λ (x : IsRepeated e last at). inl (repeated patterns lists e last at its x))
+    (λ (x : IsRepeatAt e last at). inl (repeated patterns lists e last at its x))
     (λ (x : IsSplitAt e at). inr (there patterns lists e at x.run (Splits e) its x.preferred
     (λ found f. record {
       utf8 = x.splits.utf8;
@@ -114,13 +116,13 @@ first_of patterns lists e captures found its f =
       hold = record { pattern = f.is_of.pattern; slots = λ slot l. f.is_of.records slot l ∙ p.2 slot };
     }
 
-pub none_of : (patterns : List Pattern) (lists : GroupLists) (e : Search) → IsSearchOf patterns lists e → HasNone e → HasNoneOf patterns e
+pub none_of : (patterns : List Pattern) (lists : GroupLists) (e : Search) → IsSearchOf patterns lists e → HasNoFirstMatch e → HasNoneOf patterns e
 none_of patterns lists e its none = λ at begins. none_on patterns lists e at its (none at begins)
 
 -- ---- the next match
 
 pub next_of : (patterns : List Pattern) (lists : GroupLists) (e : Search) (last : Option ℕ) (captures : Captured) (found : Matched)
-    → IsSearchOf patterns lists e → IsNextMatch e last captures found → IsNextOfAll patterns lists e last captures found
+    → IsSearchOf patterns lists e → IsNextMatch e last captures found → IsNextOf patterns lists e last captures found
 next_of patterns lists e last captures found its f =
     let p = preferred_of patterns lists e f.run found its f.is_next.preferred f.is_of.ends in
     let start = f.is_of.ends.start in
@@ -138,7 +140,7 @@ next_of patterns lists e last captures found its f =
         empty = sym start ∙ (s.empty ∙ end);
         within = λ boundary. s.within (subst (λ (i : ℕ). IsCharBoundary e.haystack i) (sym start) boundary);
       });
-      passed = λ at h o. passed_of patterns lists e last at its (f.is_next.passed at (omega (arith, h, start)) (record {
+      left_out = λ at h o. passed_of patterns lists e last at its (f.is_next.left_out at (omega (arith, h, start)) (record {
         start = o.start;
         end = o.end;
         anchored = λ a earlier l m. f.is_next.begins.anchored a earlier l (omega (arith, h, m, start));
@@ -146,13 +148,14 @@ next_of patterns lists e last captures found its f =
       hold = record { pattern = f.is_of.pattern; slots = λ slot l. f.is_of.records slot l ∙ p.2 slot };
     }
 
--- if all open positions are passed, and the preferred match from the search's start repeats the last one, then so does the preferred run
+-- if all positions at which the next match may begin are left out, and the preferred match from the search's start repeats the last one, then
+-- so does the preferred run
 still_repeated : (patterns : List Pattern) (lists : GroupLists) (e : Search) (last : Option ℕ) → IsSearchOf patterns lists e → IsOver e last
-    → e.start ≤ e.end → PrefersThere patterns lists e e.start (Repeats last) → IsRepeated e last e.start
+    → e.start ≤ e.end → PrefersThere patterns lists e e.start (Repeats last) → IsRepeatAt e last e.start
 still_repeated patterns lists e last its over l x = ⊎_elim
     (λ (none : HasNoMatch e e.start). absurd (none_on patterns lists e e.start its none x.found x.start x.preferred.is_in))
     (λ why. ⊎_elim
-    (λ (r : IsRepeated e last e.start). r)
+    (λ (r : IsRepeatAt e last e.start). r)
     (λ (s : IsSplitAt e e.start).
     let begins : (place s.run 0).1 ≡ e.start = ap (λ (p : ℕ × ℕ). p.1) s.preferred.is_match.begins in
     record {
@@ -173,7 +176,7 @@ over_of patterns lists e last its over = λ at o. passed_of patterns lists e las
       let first = o.anchored a e.start (omega arith) (omega (arith, l, h)) in
       let one : x.found.span.start ≡ first.found.span.start = same_Some _ _ (sym x.is_such.there ∙ first.is_such.there) in
       let here : e.start ≡ earlier = sym first.start ∙ (sym one ∙ x.start) in
-      subst (λ (i : ℕ). IsRepeated e last i) here (still_repeated patterns lists e last its over (omega (arith, l, h, o.end)) first);
+      subst (λ (i : ℕ). IsRepeatAt e last i) here (still_repeated patterns lists e last its over (omega (arith, l, h, o.end)) first);
 }))
 
 -- ---- there is one
@@ -216,7 +219,8 @@ same_list d (x ∷ xs) (y ∷ ys) same each =
     cc
 
 -- captures over the same groups with as many slots hold the same, if their records are the same
-one_captured : (c d : Captured) (m n : Matched) (r q : List (ℕ × ℕ)) → HoldRecords c m r → HoldRecords d n q → m ≡ n → r ≡ q → c.groups ≡ d.groups
+one_captured : (c d : Captured) (m n : Matched) (r q : List (ℕ × ℕ)) → HoldRecords c m r → HoldRecords d n q → m ≡ n → r ≡ q
+    → c.groups ≡ d.groups
     → length c.offsets ≡ length d.offsets → c ≡ d
 one_captured c d m n r q x y match records groups slots =
     ap (λ (g : GroupLists). made g c.pattern c.offsets) groups
@@ -247,8 +251,8 @@ one_first_of patterns lists e c d m n x y = (
     same = one_there patterns lists e m n x.records y.records x.preferred y.preferred start
 
 -- no match is next at a position that is passed
-not_passed : (patterns : List Pattern) (lists : GroupLists) (e : Search) (last : Option ℕ) (c : Captured) (m : Matched) → IsNextOfAll patterns lists e last c m
-    → IsPassedOf patterns lists e last m.span.start → ⊥
+not_passed : (patterns : List Pattern) (lists : GroupLists) (e : Search) (last : Option ℕ) (c : Captured) (m : Matched) → IsNextOf patterns lists e last c m
+    → IsLeftOutOf patterns lists e last m.span.start → ⊥
 not_passed patterns lists e last c m x passed = ⊎_elim
     (λ (none : NoneGoesOn patterns e m.span.start). none m refl x.preferred.is_in)
     (λ why. ⊎_elim
@@ -262,7 +266,7 @@ not_passed patterns lists e last c m x passed = ⊎_elim
     passed
 
 pub one_next_of : (patterns : List Pattern) (lists : GroupLists) (e : Search) (last : Option ℕ) (c d : Captured) (m n : Matched)
-    → IsNextOfAll patterns lists e last c m → IsNextOfAll patterns lists e last d n
+    → IsNextOf patterns lists e last c m → IsNextOf patterns lists e last d n
     → (m ≡ n) × (c.groups ≡ d.groups → length c.offsets ≡ length d.offsets → c ≡ d)
 one_next_of patterns lists e last c d m n x y = (
   same.0,
@@ -271,9 +275,9 @@ one_next_of patterns lists e last c d m n x y = (
   where
     start : m.span.start ≡ n.span.start
     start = ⊎_elim
-        (λ (l : m.span.start < n.span.start). absurd (not_passed patterns lists e last c m x (y.passed m.span.start l x.begins)))
+        (λ (l : m.span.start < n.span.start). absurd (not_passed patterns lists e last c m x (y.left_out m.span.start l x.begins)))
         (λ (h : n.span.start ≤ m.span.start). ⊎_elim
-        (λ (l : n.span.start < m.span.start). absurd (not_passed patterns lists e last d n y (x.passed n.span.start l y.begins)))
+        (λ (l : n.span.start < m.span.start). absurd (not_passed patterns lists e last d n y (x.left_out n.span.start l y.begins)))
         (λ (g : m.span.start ≤ n.span.start). omega (arith, g, h))
         (cases_lt n.span.start m.span.start))
         (cases_lt m.span.start n.span.start)
@@ -282,16 +286,17 @@ one_next_of patterns lists e last c d m n x y = (
     same = one_there patterns lists e m n x.records y.records x.preferred y.preferred start
 
 pub not_over_of : (patterns : List Pattern) (lists : GroupLists) (e : Search) (last : Option ℕ) (c : Captured) (m : Matched)
-    → IsNextOfAll patterns lists e last c m → IsOverOf patterns lists e last → ⊥
+    → IsNextOf patterns lists e last c m → IsOverOf patterns lists e last → ⊥
 not_over_of patterns lists e last c m x over = not_passed patterns lists e last c m x (over m.span.start x.begins)
 
 -- one run makes one match, with one list of offsets
-of_one_run : (e : Search) (run others : List (ℕ × ℕ)) (c d : Captured) (m n : Matched) → run ≡ others → IsOf e run m c → IsOf e others n d
+of_one_run : (e : Search) (run others : List (ℕ × ℕ)) (c d : Captured) (m n : Matched) → run ≡ others → IsMatchWithRecords e run m c
+    → IsMatchWithRecords e others n d
     → c.groups ≡ d.groups → length c.offsets ≡ length d.offsets → (m ≡ n) × (c ≡ d)
 of_one_run e run others c d m n same x z groups slots = (match, captured)
   where
-    y : IsOf e run n d
-    y = subst (λ (r : List (ℕ × ℕ)). IsOf e r n d) (sym same) z
+    y : IsMatchWithRecords e run n d
+    y = subst (λ (r : List (ℕ × ℕ)). IsMatchWithRecords e r n d) (sym same) z
 
     match_made : ℕ → ℕ → ℕ → Matched
     match_made p i j = record { pattern = p; span = record { start = i; end = j } }
@@ -320,7 +325,8 @@ pub first_of_runs : (e : Search) (c d : Captured) (m n : Matched) → IsFirstMat
 first_of_runs e c d m n x y groups slots =
     of_one_run e x.run y.run c d m n (one_first e x.run y.run x.is_first y.is_first) x.is_of y.is_of groups slots
 
-pub next_of_runs : (e : Search) (last : Option ℕ) (c d : Captured) (m n : Matched) → IsNextMatch e last c m → IsNextMatch e last d n → c.groups ≡ d.groups
+pub next_of_runs : (e : Search) (last : Option ℕ) (c d : Captured) (m n : Matched) → IsNextMatch e last c m → IsNextMatch e last d n
+    → c.groups ≡ d.groups
     → length c.offsets ≡ length d.offsets → (m ≡ n) × (c ≡ d)
 next_of_runs e last c d m n x y groups slots =
     of_one_run e x.run y.run c d m n (one_next e last x.run y.run x.is_next y.is_next) x.is_of y.is_of groups slots
@@ -345,7 +351,8 @@ built_of chars program patterns r p w = record {
 
 -- ---- the span of a group
 
-pub recorded_there : (lists : GroupLists) (c : Captured) (m : Matched) (records : List (ℕ × ℕ)) (g : ℕ) → c.groups ≡ lists → HoldRecords c m records
+pub recorded_there : (lists : GroupLists) (c : Captured) (m : Matched) (records : List (ℕ × ℕ)) (g : ℕ) → c.groups ≡ lists
+    → HoldRecords c m records
     → g < group_count lists m.pattern → slot_number lists m.pattern g + 1 < length c.offsets
     → group_span c g ≡ recorded_span records (slot_number lists m.pattern g)
 recorded_there lists c m records g groups hold l room =

@@ -11,7 +11,7 @@ use Rattle.rsc_engine.specs.Runs.{accepts, IsMatchRun, IsMatchOf}
 use Rattle.rsc_engine.specs.Preferred.{IsOnce, IsPreferredTo, IsPreferred}
 use Rattle.rsc_engine.specs.Patterns.{Pattern, Subject, subject_of, HasRunOf}
 use Rattle.rsc_engine.specs.PatternOrder.{PrefersLesser, PrefersFirstEnds, RecordsFirstWays, RecordsWays, RecordsPreferredWays}
-use Rattle.rsc_engine.specs.LinksLayout.{Aim, Ends}
+use Rattle.rsc_engine.specs.LinksLayout.{Aim, StepsLead}
 use Rattle.rsc_engine.specs.StepsLayout.{AreSteps, last_place}
 use Rattle.rsc_engine.specs.WaysLayout.{StepsBefore, finish, recorded_by}
 use Rattle.rsc_engine.specs.BeginsLayout.{PrefersFrom, Begins, IsOfOne}
@@ -29,14 +29,16 @@ use Rattle.rsc_engine.proofs.StepsLayoutLemmas.{Short, shorten, once_of, is_run_
 
 -- ---- from steps to a way to a match, where the state is known
 
-way_from : (states : List State) (x : Subject) (end m first : ℕ) (p : ℕ × ℕ) (rest : List (ℕ × ℕ)) → p.0 ≡ first → p.1 ≤ end → AreSteps states x end p rest
-    → slice_get states (last_place p rest).0 ≡ Some (Accept m) → Ends states (aim_at x end m (last_place p rest)) (length rest) first p.1
+way_from : (states : List State) (x : Subject) (end m first : ℕ) (p : ℕ × ℕ) (rest : List (ℕ × ℕ)) → p.0 ≡ first → p.1 ≤ end
+    → AreSteps states x end p rest
+    → slice_get states (last_place p rest).0 ≡ Some (Accept m) → StepsLead states (aim_at x end m (last_place p rest)) (length rest) first p.1
 way_from states x end m first p rest same l steps at =
-    subst (λ (s : ℕ). Ends states (aim_at x end m (last_place p rest)) (length rest) s p.1) same (way_of states x end m p rest l steps at)
+    subst (λ (s : ℕ). StepsLead states (aim_at x end m (last_place p rest)) (length rest) s p.1) same (way_of states x end m p rest l steps at)
 
 -- ---- one pattern, and a fork between patterns
 
-pub PrefersFrom-one : (states : List State) (first number : ℕ) (p : Pattern) → ((a : Aim) (n i : ℕ) → Ends states a n first i → IsOfOne number p a i)
+pub PrefersFrom-one : (states : List State) (first number : ℕ) (p : Pattern)
+    → ((a : Aim) (n i : ℕ) → StepsLead states a n first i → IsOfOne number p a i)
     → PrefersFrom states first
 PrefersFrom-one states first number p sound = record {
   before = λ x end m n at one other same l steps others is also lt.
@@ -59,7 +61,8 @@ PrefersFrom-fork states s one other P Q is b c apart = record { before = each }
     second q way apart = ⊎_elim (λ (h : q.0 ≡ one). absurd (apart h)) (λ (h : q.0 ≡ other). h) way
 
     -- both go the same way
-    both : (x : Subject) (end m n first : ℕ) (p q r : ℕ × ℕ) (here there : List (ℕ × ℕ)) → PrefersFrom states first → q.0 ≡ first → r.0 ≡ first
+    both : (x : Subject) (end m n first : ℕ) (p q r : ℕ × ℕ) (here there : List (ℕ × ℕ)) → PrefersFrom states first → q.0 ≡ first
+        → r.0 ≡ first
         → q.1 ≡ p.1 → r.1 ≡ p.1 → q.1 ≤ end → AreSteps states x end q here → AreSteps states x end r there
         → slice_get states (last_place q here).0 ≡ Some (Accept m) → slice_get states (last_place r there).0 ≡ Some (Accept n) → m < n
         → StepsBefore states p (q ∷ here) (r ∷ there)
@@ -172,7 +175,8 @@ record Once (e : Search) (found : Matched) : Type 0 where
   makes : IsMatchOf e run found
   once : IsOnce run
 
-once_run : (e : Search) (found : Matched) (run : List (ℕ × ℕ)) → IsMatchRun e (e.start_state, found.span.start) run → IsMatchOf e run found → Once e found
+once_run : (e : Search) (found : Matched) (run : List (ℕ × ℕ)) → IsMatchRun e (e.start_state, found.span.start) run → IsMatchOf e run found
+    → Once e found
 once_run e found [] m f = absurd (omega (arith, m.some))
 once_run e found (p ∷ rest) m f = record {
   run = p ∷ s.rest;
@@ -219,7 +223,8 @@ is_least e run found other prefers first f h same = ⊎_elim
 -- ---- what a run records
 
 -- a place whose state accepts the same pattern accepts too
-pub same_accepts : (e : Search) (p q : ℕ × ℕ) (m : ℕ) → slice_get e.states p.0 ≡ Some (Accept m) → slice_get e.states q.0 ≡ Some (Accept m) → accepts e p ≡ true
+pub same_accepts : (e : Search) (p q : ℕ × ℕ) (m : ℕ) → slice_get e.states p.0 ≡ Some (Accept m) → slice_get e.states q.0 ≡ Some (Accept m)
+    → accepts e p ≡ true
     → accepts e q ≡ true
 same_accepts e p q m here there a = rw there (rw here at a)
 

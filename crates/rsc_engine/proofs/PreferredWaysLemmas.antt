@@ -4,8 +4,8 @@ use Rattle.std.proofs.lemmas.Bool.{cases_lt}
 use Rattle.std.proofs.lemmas.List.{get_or_append_left, get_or-append-add}
 use Rattle.std.specs.List.{AllPairs}
 use Rattle.rsc_engine.specs.Patterns.{Pattern, Empty, Never, Class, Literal, Assertion, Then, Either, Repeat, Group, Subject, may_be_empty}
-use Rattle.rsc_engine.specs.Courses.{Course, Skip, Dead, Byte, Here, After, Choose, Turn, Again, Within, Stand, begin, chosen, noted, Turns, SomeTurns, GoesNew, Reaches, FirstTurns, IsFirstNew}
-use Rattle.rsc_engine.specs.PreferredWays.{may_come, IsOfRanges, bytes_in_order, AreCopies, AreAtMost, IsAgain, IsStar, IsCourseOf, choices, IsPreferredWay}
+use Rattle.rsc_engine.specs.Courses.{Course, Skip, Dead, Byte, Here, After, Choose, Turn, Again, Within, Stand, fresh, chosen, noted, Turns, SomeTurns, GoesOnce, Reaches, FirstTurns, IsFirstOnce}
+use Rattle.rsc_engine.specs.PreferredWays.{may_come, IsOfRanges, bytes_in_order, AreCopies, AreOptionalCopies, IsAgain, IsStar, IsCourseOf, choices, IsPreferredWay}
 use Rattle.rsc_engine.specs.RenamedLayout.{AreRenamed, IsOneToOne, AreAlike}
 use Rattle.rsc_engine.proofs.RenamedLayoutLemmas.{AreBoth, first_same}
 
@@ -14,7 +14,8 @@ use Rattle.rsc_engine.proofs.RenamedLayoutLemmas.{AreBoth, first_same}
 abbrev LeadsOn : ((Stand → Type 0) → Stand → Stand → Type 0) → (Stand → Stand → Type 0) → Type 1
 LeadsOn First R = (Wanted : Stand → Type 0) (s t : Stand) → First Wanted s t → R s t × Wanted t
 
-turns-goes : (First : (Stand → Type 0) → Stand → Stand → Type 0) (R : Stand → Stand → Type 0) (w : ℕ) (greedy : Bool) → LeadsOn First R → (n : ℕ)
+turns-goes : (First : (Stand → Type 0) → Stand → Stand → Type 0) (R : Stand → Stand → Type 0) (w : ℕ) (greedy : Bool) → LeadsOn First R
+    → (n : ℕ)
     → LeadsOn (λ Such k l. FirstTurns First R w greedy n Such k l) (Turns R w n)
 turns-goes First R w greedy on zero Wanted s t f = ((f.0, f.1), f.2)
 turns-goes First R w greedy on (suc n) Wanted s t f =
@@ -22,25 +23,25 @@ turns-goes First R w greedy on (suc n) Wanted s t f =
     let rest = turns-goes First R w greedy on n Wanted f.2 t f.4 in
     ((f.0, f.2, one.0, rest.0), rest.1)
 
-pub new-goes : (x : Subject) (c : Course) → LeadsOn (λ Such k l. IsFirstNew x c Such k l) (GoesNew x c)
+pub new-goes : (x : Subject) (c : Course) → LeadsOn (λ Such k l. IsFirstOnce x c Such k l) (GoesOnce x c)
 new-goes x Skip Wanted s t f = f
 new-goes x Dead Wanted s t f = absurd f
 new-goes x (Byte a b) Wanted s t f = f
 new-goes x (Here look) Wanted s t f = f
 new-goes x (After c d) Wanted s t f =
-    let one = new-goes x c (Reaches Wanted (GoesNew x d)) s f.0 f.1 in
+    let one = new-goes x c (Reaches Wanted (GoesOnce x d)) s f.0 f.1 in
     let other = new-goes x d Wanted f.0 t f.2 in
     ((f.0, one.0, other.0), other.1)
 new-goes x (Choose w c d) Wanted s t f = ⊎_elim
-    (λ (g : IsFirstNew x c Wanted (chosen w s) t). let h = new-goes x c Wanted (chosen w s) t g in ((f.0, inl h.0), h.1))
-    (λ (g : (Reaches Wanted (GoesNew x c) (chosen w s) → ⊥) × IsFirstNew x d Wanted (chosen w s) t).
+    (λ (g : IsFirstOnce x c Wanted (chosen w s) t). let h = new-goes x c Wanted (chosen w s) t g in ((f.0, inl h.0), h.1))
+    (λ (g : (Reaches Wanted (GoesOnce x c) (chosen w s) → ⊥) × IsFirstOnce x d Wanted (chosen w s) t).
     let h = new-goes x d Wanted (chosen w s) t g.1 in ((f.0, inr h.0), h.1))
     f.1
 new-goes x (Turn w greedy c) Wanted s t f =
-    let g = turns-goes (λ Such k l. IsFirstNew x c Such k l) (GoesNew x c) w greedy (new-goes x c) f.0 Wanted s t f.1 in ((f.0, g.0), g.1)
+    let g = turns-goes (λ Such k l. IsFirstOnce x c Such k l) (GoesOnce x c) w greedy (new-goes x c) f.0 Wanted s t f.1 in ((f.0, g.0), g.1)
 new-goes x (Again w greedy c) Wanted s t f =
-    let one = new-goes x c (Reaches Wanted (SomeTurns (GoesNew x c) w)) s f.0 f.1 in
-    let g = turns-goes (λ Such k l. IsFirstNew x c Such k l) (GoesNew x c) w greedy (new-goes x c) f.2 Wanted f.0 t f.3 in
+    let one = new-goes x c (Reaches Wanted (SomeTurns (GoesOnce x c) w)) s f.0 f.1 in
+    let g = turns-goes (λ Such k l. IsFirstOnce x c Such k l) (GoesOnce x c) w greedy (new-goes x c) f.2 Wanted f.0 t f.3 in
     ((f.0, one.0, (f.2, g.0)), g.1)
 new-goes x (Within slot c) Wanted s t f =
     let g = new-goes x c (λ l. Wanted (noted (slot + 1) l)) (noted slot s) f.0 f.1 in
@@ -50,14 +51,17 @@ abbrev IsOne : ((Stand → Type 0) → Stand → Stand → Type 0) → Type 1
 IsOne First = (Wanted : Stand → Type 0) (s t u : Stand) → First Wanted s t → First Wanted s u → t ≡ u
 
 -- where it comes no more it doesn't come once more
-over_or_more : (First : (Stand → Type 0) → Stand → Stand → Type 0) (R : Stand → Stand → Type 0) (w : ℕ) (greedy : Bool) → LeadsOn First R → (n : ℕ)
+over_or_more : (First : (Stand → Type 0) → Stand → Stand → Type 0) (R : Stand → Stand → Type 0) (w : ℕ) (greedy : Bool) → LeadsOn First R
+    → (n : ℕ)
     (Wanted : Stand → Type 0) (s t u : Stand) → FirstTurns First R w greedy zero Wanted s t → FirstTurns First R w greedy (suc n) Wanted s u → ⊥
 over_or_more First R w true on n Wanted s t u f g =
     let one = on (Reaches Wanted (SomeTurns R w)) (chosen w s) g.2 g.3 in f.3 refl (g.2, one.0, one.1)
 over_or_more First R w false on n Wanted s t u f g = g.1 refl (subst Wanted f.1 f.2)
 
-turns-one : (First : (Stand → Type 0) → Stand → Stand → Type 0) (R : Stand → Stand → Type 0) (w : ℕ) (greedy : Bool) → LeadsOn First R → IsOne First
-    → (m n : ℕ) (Wanted : Stand → Type 0) (s t u : Stand) → FirstTurns First R w greedy m Wanted s t → FirstTurns First R w greedy n Wanted s u → t ≡ u
+turns-one : (First : (Stand → Type 0) → Stand → Stand → Type 0) (R : Stand → Stand → Type 0) (w : ℕ) (greedy : Bool) → LeadsOn First R
+    → IsOne First
+    → (m n : ℕ) (Wanted : Stand → Type 0) (s t u : Stand) → FirstTurns First R w greedy m Wanted s t → FirstTurns First R w greedy n Wanted s u
+    → t ≡ u
 turns-one First R w greedy on one zero zero Wanted s t u f g = f.1 ∙ sym g.1
 turns-one First R w greedy on one zero (suc n) Wanted s t u f g = absurd (over_or_more First R w greedy on n Wanted s t u f g)
 turns-one First R w greedy on one (suc m) zero Wanted s t u f g = absurd (over_or_more First R w greedy on m Wanted s u t g f)
@@ -65,31 +69,31 @@ turns-one First R w greedy on one (suc m) (suc n) Wanted s t u f g =
     let same = one (Reaches Wanted (SomeTurns R w)) (chosen w s) g.2 f.2 g.3 f.3 in
     turns-one First R w greedy on one m n Wanted f.2 t u f.4 (subst (λ (z : Stand). FirstTurns First R w greedy n Wanted z u) same g.4)
 
-new-one : (x : Subject) (c : Course) → IsOne (λ Such k l. IsFirstNew x c Such k l)
+new-one : (x : Subject) (c : Course) → IsOne (λ Such k l. IsFirstOnce x c Such k l)
 new-one x Skip Wanted s t u f g = sym f.0 ∙ g.0
 new-one x Dead Wanted s t u f g = absurd f
 new-one x (Byte a b) Wanted s t u f g = f.0.1 ∙ sym g.0.1
 new-one x (Here look) Wanted s t u f g = sym f.0.1 ∙ g.0.1
 new-one x (After c d) Wanted s t u f g =
-    let same = new-one x c (Reaches Wanted (GoesNew x d)) s g.0 f.0 g.1 f.1 in
-    new-one x d Wanted f.0 t u f.2 (subst (λ (z : Stand). IsFirstNew x d Wanted z u) same g.2)
+    let same = new-one x c (Reaches Wanted (GoesOnce x d)) s g.0 f.0 g.1 f.1 in
+    new-one x d Wanted f.0 t u f.2 (subst (λ (z : Stand). IsFirstOnce x d Wanted z u) same g.2)
 new-one x (Choose w c d) Wanted s t u f g = ⊎_elim
-    (λ (y : IsFirstNew x c Wanted (chosen w s) t). ⊎_elim
-    (λ (z : IsFirstNew x c Wanted (chosen w s) u). new-one x c Wanted (chosen w s) t u y z)
-    (λ (z : (Reaches Wanted (GoesNew x c) (chosen w s) → ⊥) × IsFirstNew x d Wanted (chosen w s) u).
+    (λ (y : IsFirstOnce x c Wanted (chosen w s) t). ⊎_elim
+    (λ (z : IsFirstOnce x c Wanted (chosen w s) u). new-one x c Wanted (chosen w s) t u y z)
+    (λ (z : (Reaches Wanted (GoesOnce x c) (chosen w s) → ⊥) × IsFirstOnce x d Wanted (chosen w s) u).
     let h = new-goes x c Wanted (chosen w s) t y in absurd (z.0 (t, h.0, h.1)))
     g.1)
-    (λ (y : (Reaches Wanted (GoesNew x c) (chosen w s) → ⊥) × IsFirstNew x d Wanted (chosen w s) t). ⊎_elim
-    (λ (z : IsFirstNew x c Wanted (chosen w s) u). let h = new-goes x c Wanted (chosen w s) u z in absurd (y.0 (u, h.0, h.1)))
-    (λ (z : (Reaches Wanted (GoesNew x c) (chosen w s) → ⊥) × IsFirstNew x d Wanted (chosen w s) u). new-one x d Wanted (chosen w s) t u y.1 z.1)
+    (λ (y : (Reaches Wanted (GoesOnce x c) (chosen w s) → ⊥) × IsFirstOnce x d Wanted (chosen w s) t). ⊎_elim
+    (λ (z : IsFirstOnce x c Wanted (chosen w s) u). let h = new-goes x c Wanted (chosen w s) u z in absurd (y.0 (u, h.0, h.1)))
+    (λ (z : (Reaches Wanted (GoesOnce x c) (chosen w s) → ⊥) × IsFirstOnce x d Wanted (chosen w s) u). new-one x d Wanted (chosen w s) t u y.1 z.1)
     g.1)
     f.1
 new-one x (Turn w greedy c) Wanted s t u f g =
-    turns-one (λ Such k l. IsFirstNew x c Such k l) (GoesNew x c) w greedy (new-goes x c) (new-one x c) f.0 g.0 Wanted s t u f.1 g.1
+    turns-one (λ Such k l. IsFirstOnce x c Such k l) (GoesOnce x c) w greedy (new-goes x c) (new-one x c) f.0 g.0 Wanted s t u f.1 g.1
 new-one x (Again w greedy c) Wanted s t u f g =
-    let same = new-one x c (Reaches Wanted (SomeTurns (GoesNew x c) w)) s g.0 f.0 g.1 f.1 in
-    turns-one (λ Such k l. IsFirstNew x c Such k l) (GoesNew x c) w greedy (new-goes x c) (new-one x c) f.2 g.2 Wanted f.0 t u f.3
-    (subst (λ (z : Stand). FirstTurns (λ Such k l. IsFirstNew x c Such k l) (GoesNew x c) w greedy g.2 Wanted z u) same g.3)
+    let same = new-one x c (Reaches Wanted (SomeTurns (GoesOnce x c) w)) s g.0 f.0 g.1 f.1 in
+    turns-one (λ Such k l. IsFirstOnce x c Such k l) (GoesOnce x c) w greedy (new-goes x c) (new-one x c) f.2 g.2 Wanted f.0 t u f.3
+    (subst (λ (z : Stand). FirstTurns (λ Such k l. IsFirstOnce x c Such k l) (GoesOnce x c) w greedy g.2 Wanted z u) same g.3)
 new-one x (Within slot c) Wanted s t u f g =
     f.2 ∙ (ap (λ (z : Stand). noted (slot + 1) z) (new-one x c (λ l. Wanted (noted (slot + 1) l)) (noted slot s) f.0 g.0 f.1 g.1) ∙ sym g.2)
 
@@ -125,11 +129,12 @@ same-choice true w v d f r = (v, f, Skip, refl, tt, r, refl)
 same-choice false w v d f r = (v, Skip, f, refl, tt, refl, r)
 
 -- a choice of two courses that are alike
-same-come : (greedy : Bool) (w v : ℕ) (c d e f : Course) → c ≡ may_come greedy w d → e ≡ may_come greedy v f → AreRenamed Any d f → AreRenamed Any c e
+same-come : (greedy : Bool) (w v : ℕ) (c d e f : Course) → c ≡ may_come greedy w d → e ≡ may_come greedy v f → AreRenamed Any d f
+    → AreRenamed Any c e
 same-come greedy w v c d e f a b r =
     from_form c (may_come greedy w d) e a (subst (λ (z : Course). AreRenamed Any (may_come greedy w d) z) (sym b) (same-choice greedy w v d f r))
 
-same-most : (Is : Course → Type 0) → AreCourses Is → (greedy : Bool) (n : ℕ) → AreCourses (AreAtMost Is greedy n)
+same-most : (Is : Course → Type 0) → AreCourses Is → (greedy : Bool) (n : ℕ) → AreCourses (AreOptionalCopies Is greedy n)
 same-most Is same greedy zero c e h g = from_form c Skip e h g
 same-most Is same greedy (suc n) c e h g =
     same-come greedy h.0 g.0 c (After h.1 h.2) e (After g.1 g.2) h.3 g.3
@@ -251,13 +256,15 @@ abbrev StandAt : List ℕ → List ℕ → ℕ → ℕ → Type 0
 StandAt xs ys v w = (k : ℕ) × (k < length xs) × (get_or xs k 0 ≡ v) × (get_or ys k 0 ≡ w)
 
 -- where each number is at one place
-one_place : (xs : List ℕ) (j k : ℕ) → AllPairs (λ v w. (v ≡ w) → ⊥) xs → j < length xs → k < length xs → get_or xs j 0 ≡ get_or xs k 0 → j ≡ k
+one_place : (xs : List ℕ) (j k : ℕ) → AllPairs (λ v w. (v ≡ w) → ⊥) xs → j < length xs → k < length xs → get_or xs j 0 ≡ get_or xs k 0
+    → j ≡ k
 one_place xs j k apart l m same = ⊎_elim
     (λ (b : j < k). absurd (apart j k 0 b m same))
     (λ (a : k ≤ j). ⊎_elim (λ (b : k < j). absurd (apart k j 0 b l (sym same))) (λ (b : j ≤ k). omega (arith, a, b)) (cases_lt k j))
     (cases_lt j k)
 
-one_at : (xs ys : List ℕ) → length xs ≡ length ys → AllPairs (λ v w. (v ≡ w) → ⊥) xs → AllPairs (λ v w. (v ≡ w) → ⊥) ys → IsOneToOne (StandAt xs ys)
+one_at : (xs ys : List ℕ) → length xs ≡ length ys → AllPairs (λ v w. (v ≡ w) → ⊥) xs → AllPairs (λ v w. (v ≡ w) → ⊥) ys
+    → IsOneToOne (StandAt xs ys)
 one_at xs ys same ax ay = record {
   to = λ v w a b r q e.
       let place : r.0 ≡ q.0 = one_place xs r.0 q.0 ax r.1 q.1 (r.2 ∙ (e ∙ sym q.2)) in
@@ -282,16 +289,16 @@ one_way x p Wanted i j k one other f g = (
     alike : AreRenamed Any f.0.course g.0.course
     alike = same-course p f.0.course g.0.course f.0.is g.0.is
 
-    here : AreAlike R (begin i) (begin i)
+    here : AreAlike R (fresh i) (fresh i)
     here = record { at = refl; records = refl; to = λ v w r c. absurd (omega (arith, c.1)); back = λ v w r c. absurd (omega (arith, c.1)) }
 
     both : AreBoth R (λ s. Wanted s.at) (λ s. Wanted s.at)
     both = (λ s u a w. subst Wanted a.at w, λ s u a w. subst Wanted a.at w)
 
-    image : (u : Stand) × IsFirstNew x g.0.course (λ s. Wanted s.at) (begin i) u × AreAlike R f.1 u
+    image : (u : Stand) × IsFirstOnce x g.0.course (λ s. Wanted s.at) (fresh i) u × AreAlike R f.1 u
     image = first_same x R f.0.course g.0.course
         (one_at (choices f.0.course) (choices g.0.course) (as_many f.0.course g.0.course alike) f.0.apart g.0.apart)
-        (renamed_at R f.0.course g.0.course alike (λ n l. (n, l, refl, refl))) (λ s. Wanted s.at) (λ s. Wanted s.at) both (begin i) (begin i) f.1 here f.2
+        (renamed_at R f.0.course g.0.course alike (λ n l. (n, l, refl, refl))) (λ s. Wanted s.at) (λ s. Wanted s.at) both (fresh i) (fresh i) f.1 here f.2
 
     same : image.0 ≡ g.1
-    same = new-one x g.0.course (λ s. Wanted s.at) (begin i) image.0 g.1 image.1 g.2
+    same = new-one x g.0.course (λ s. Wanted s.at) (fresh i) image.0 g.1 image.1 g.2

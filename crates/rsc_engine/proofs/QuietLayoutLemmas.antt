@@ -23,7 +23,8 @@ module _ (e : Search) (loud : List Bool) (quiet : AreQuiet e.states loud) (p j s
   leads s state q is = rw is at (quiet s q)
 
   -- the record of the end is the last step
-  ends : (x y : ℕ × ℕ) (rest : List (ℕ × ℕ)) (q : ℕ × ℕ) (c next r : ℕ) → IsMatchRun e q (x ∷ (y ∷ rest)) → slice_get e.states x.0 ≡ Some (Capture c next)
+  ends : (x y : ℕ × ℕ) (rest : List (ℕ × ℕ)) (q : ℕ × ℕ) (c next r : ℕ) → IsMatchRun e q (x ∷ (y ∷ rest))
+      → slice_get e.states x.0 ≡ Some (Capture c next)
       → y.0 ≡ next → y.1 ≡ x.1 → c ≡ 2 * r + 1 → slice_get e.states next ≡ Some (Accept r)
       → slice_get e.states (last_of (x ∷ (y ∷ rest))).0 ≡ Some (Accept p) → (last_of (x ∷ (y ∷ rest))).1 ≡ j
       → recorded e.states (x ∷ (y ∷ rest)) slot ≡ closing p j slot
@@ -86,7 +87,8 @@ same_option (Some i) (Some j) x = ⊎_elim
     (cases_eq i j)
 
 -- with the end written, the slots hold what the preferred run records
-pub quiet-records : (e : Search) (from p j : ℕ) (x : GoesTo e from p j) (s i : ℕ) (loud : List Bool) (slots new : List (Option ℕ)) → AreQuiet e.states loud
+pub quiet-records : (e : Search) (from p j : ℕ) (x : GoesTo e from p j) (s i : ℕ) (loud : List Bool) (slots new : List (Option ℕ))
+    → AreQuiet e.states loud
     → IsQuiet loud s → IsLed e from s i slots → length new ≡ length slots
     → ((k : ℕ) → k < length new → get_or new k None ≡ cond (nat_eq (2 * p + 1) k) (Some j) (get_or slots k None)) → AreRecords e x.run new
 quiet-records e from p j x s i loud slots new quiet is w len wrote k l =

@@ -21,7 +21,8 @@ built-weaker (Ok x) P Q f y = f x y
 built-weaker (Err e) P Q f y = y
 
 -- the same with what holds besides
-pub built-with : {X E : Type 0} (r : Result X E) (P : X → Type 0) (S : Type 0) (Q : X → Type 0) → ((x : X) → P x → S → Q x) → IfOk r P → OnOk r S
+pub built-with : {X E : Type 0} (r : Result X E) (P : X → Type 0) (S : Type 0) (Q : X → Type 0) → ((x : X) → P x → S → Q x) → IfOk r P
+    → OnOk r S
     → IfOk r Q
 built-with (Ok x) P S Q f y s = f x y s
 built-with (Err e) P S Q f y s = y
@@ -58,7 +59,8 @@ pattern_apart false true c p q name e = cc
 pattern_apart false false true p q name e = cc
 pattern_apart false false false p q name e = cc
 
-group_repeats : (limit : ℕ) (lists : GroupLists) (p g q : ℕ) (name : List ℕ) → group_fault limit lists p g ≡ Some (Duplicate q name) → RepeatsName lists
+group_repeats : (limit : ℕ) (lists : GroupLists) (p g q : ℕ) (name : List ℕ) → group_fault limit lists p g ≡ Some (Duplicate q name)
+    → RepeatsName lists
 group_repeats limit lists p zero q name e = absurd (pattern_apart _ _ _ p q name e)
 group_repeats limit lists p (suc g) q name e =
     let later : nat_eq (suc g) 0 ≡ false = grind (arith, nat_tests) in explicit_repeats limit lists p (suc g) q name (rw later at e)
@@ -109,7 +111,8 @@ first-plain lists p rest its small =
     let some : nat_eq (suc (length rest)) 0 ≡ false = grind (arith, nat_tests) in
     rw (few, its, some) refl
 
-name-kind : (groups : Groups) (p g : ℕ) (o : Option (List ℕ)) (f : Fault) → name_fault groups p g o ≡ Some f → (name : List ℕ) × (f ≡ Duplicate p name)
+name-kind : (groups : Groups) (p g : ℕ) (o : Option (List ℕ)) (f : Fault) → name_fault groups p g o ≡ Some f → (name : List ℕ)
+    × (f ≡ Duplicate p name)
 name-kind groups p g None f e = absurd (cc)
 name-kind groups p g (Some name) f e = decide (stands_before groups g name) e
   where
@@ -147,7 +150,8 @@ names-refused parts (Some f) small r =
     let its = first-kind parts f small r in
     inr (
       ap (λ (g : Fault). error_of (Some g)) its.2,
-      first_repeats max_index (map groups_of_pattern parts) its.0 its.1 (subst (λ (g : Fault). IsFirstFault max_index (map groups_of_pattern parts) g) its.2 r),
+      first_repeats max_index (map groups_of_pattern parts) its.0 its.1
+          (subst (λ (g : Fault). IsFirstFault max_index (map groups_of_pattern parts) g) its.2 r),
     )
 
 -- ---- a pattern that has a group

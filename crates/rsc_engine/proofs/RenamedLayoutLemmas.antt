@@ -4,7 +4,7 @@ use Rattle.std.proofs.lemmas.List.{get_or_append_left, get_or-append-add}
 use Rattle.std.specs.List.{Contains}
 use Rattle.rsc_engine.specs.Patterns.{Subject}
 use Rattle.rsc_engine.specs.RenamedLayout.{AreRenamed, IsOneToOne, AreAlike}
-use Rattle.rsc_engine.specs.Courses.{Course, Skip, Dead, Byte, Here, After, Choose, Turn, Again, Within, Stand, further, chosen, noted, IsNew, Turns, SomeTurns, GoesNew, Reaches, FirstTurns, IsFirstNew}
+use Rattle.rsc_engine.specs.Courses.{Course, Skip, Dead, Byte, Here, After, Choose, Turn, Again, Within, Stand, further, chosen, noted, IsUnmade, Turns, SomeTurns, GoesOnce, Reaches, FirstTurns, IsFirstOnce}
 use Rattle.rsc_engine.specs.PreferredWays.{choices}
 
 -- ---- the other way round
@@ -59,7 +59,8 @@ chosen_alike : (R : ℕ → ℕ → Type 0) (v w : ℕ) (s t : Stand) → IsOneT
 chosen_alike R v w s t o r a = record {
   at = a.at;
   records = a.records;
-  to = λ b c q h. at_front w c t.made (⊎_elim (λ (e : v ≡ b). inl (o.to v w b c r q e)) (λ (m : Contains s.made b). inr (a.to b c q m)) (front v b s.made h));
+  to = λ b c q h. at_front w c t.made
+      (⊎_elim (λ (e : v ≡ b). inl (o.to v w b c r q e)) (λ (m : Contains s.made b). inr (a.to b c q m)) (front v b s.made h));
   back = λ b c q h. at_front v b s.made
       (⊎_elim (λ (e : w ≡ c). inl (o.back v w b c r q e)) (λ (m : Contains t.made c). inr (a.back b c q m)) (front w c t.made h));
 }
@@ -96,37 +97,37 @@ some_turns_same : (R : ℕ → ℕ → Type 0) (Goes Other : Stand → Stand →
 some_turns_same R Goes Other v w o r same s u t a g =
     let l = turns_same R Goes Other v w g.0 o r same s u t a g.1 in (l.0, (g.0, l.1), l.2)
 
-pub goes_same : (x : Subject) (R : ℕ → ℕ → Type 0) (c e : Course) → IsOneToOne R → AreRenamed R c e → AreSame R (GoesNew x c) (GoesNew x e)
+pub goes_same : (x : Subject) (R : ℕ → ℕ → Type 0) (c e : Course) → IsOneToOne R → AreRenamed R c e → AreSame R (GoesOnce x c) (GoesOnce x e)
 goes_same x R Skip e o h s u t a g =
-    subst (λ (z : Course). Image R (GoesNew x z) u t) (sym h) (u, refl, subst (λ (z : Stand). AreAlike R z u) g a)
+    subst (λ (z : Course). Image R (GoesOnce x z) u t) (sym h) (u, refl, subst (λ (z : Stand). AreAlike R z u) g a)
 goes_same x R Dead e o h s u t a g = absurd g
 goes_same x R (Byte p q) e o h s u t a g =
-    subst (λ (z : Course). Image R (GoesNew x z) u t) (sym h)
+    subst (λ (z : Course). Image R (GoesOnce x z) u t) (sym h)
     (further u, (rw (sym a.at) g.0, refl), subst (λ (z : Stand). AreAlike R z (further u)) (sym g.1) (further_alike R s u a))
 goes_same x R (Here look) e o h s u t a g =
-    subst (λ (z : Course). Image R (GoesNew x z) u t) (sym h)
+    subst (λ (z : Course). Image R (GoesOnce x z) u t) (sym h)
     (u, (rw (sym a.at) g.0, refl), subst (λ (z : Stand). AreAlike R z u) g.1 a)
 goes_same x R (After c d) e o h s u t a g =
     let k = goes_same x R c h.0 o h.3 s u g.0 a g.1 in
     let l = goes_same x R d h.1 o h.4 g.0 k.0 t k.2 g.2 in
-    subst (λ (z : Course). Image R (GoesNew x z) u t) (sym h.2) (l.0, (k.0, k.1, l.1), l.2)
+    subst (λ (z : Course). Image R (GoesOnce x z) u t) (sym h.2) (l.0, (k.0, k.1, l.1), l.2)
 goes_same x R (Choose w c d) e o h s u t a g =
     let b = chosen_alike R w h.0 s u o h.4 a in
-    let new : IsNew h.0 u = λ m. g.0 (a.back w h.0 h.4 m) in
-    subst (λ (z : Course). Image R (GoesNew x z) u t) (sym h.3) (⊎_elim
-    (λ (y : GoesNew x c (chosen w s) t). let k = goes_same x R c h.1 o h.5 (chosen w s) (chosen h.0 u) t b y in (k.0, (new, inl k.1), k.2))
-    (λ (y : GoesNew x d (chosen w s) t). let k = goes_same x R d h.2 o h.6 (chosen w s) (chosen h.0 u) t b y in (k.0, (new, inr k.1), k.2))
+    let new : IsUnmade h.0 u = λ m. g.0 (a.back w h.0 h.4 m) in
+    subst (λ (z : Course). Image R (GoesOnce x z) u t) (sym h.3) (⊎_elim
+    (λ (y : GoesOnce x c (chosen w s) t). let k = goes_same x R c h.1 o h.5 (chosen w s) (chosen h.0 u) t b y in (k.0, (new, inl k.1), k.2))
+    (λ (y : GoesOnce x d (chosen w s) t). let k = goes_same x R d h.2 o h.6 (chosen w s) (chosen h.0 u) t b y in (k.0, (new, inr k.1), k.2))
     g.1)
 goes_same x R (Turn w greedy c) e o h s u t a g =
-    subst (λ (z : Course). Image R (GoesNew x z) u t) (sym h.2)
-    (some_turns_same R (GoesNew x c) (GoesNew x h.1) w h.0 o h.3 (λ l m n b y. goes_same x R c h.1 o h.4 l m n b y) s u t a g)
+    subst (λ (z : Course). Image R (GoesOnce x z) u t) (sym h.2)
+    (some_turns_same R (GoesOnce x c) (GoesOnce x h.1) w h.0 o h.3 (λ l m n b y. goes_same x R c h.1 o h.4 l m n b y) s u t a g)
 goes_same x R (Again w greedy c) e o h s u t a g =
     let k = goes_same x R c h.1 o h.4 s u g.0 a g.1 in
-    let l = some_turns_same R (GoesNew x c) (GoesNew x h.1) w h.0 o h.3 (λ i m n b y. goes_same x R c h.1 o h.4 i m n b y) g.0 k.0 t k.2 g.2 in
-    subst (λ (z : Course). Image R (GoesNew x z) u t) (sym h.2) (l.0, (k.0, k.1, l.1), l.2)
+    let l = some_turns_same R (GoesOnce x c) (GoesOnce x h.1) w h.0 o h.3 (λ i m n b y. goes_same x R c h.1 o h.4 i m n b y) g.0 k.0 t k.2 g.2 in
+    subst (λ (z : Course). Image R (GoesOnce x z) u t) (sym h.2) (l.0, (k.0, k.1, l.1), l.2)
 goes_same x R (Within slot c) e o h s u t a g =
     let k = goes_same x R c h.0 o h.2 (noted slot s) (noted slot u) g.0 (noted_alike R slot s u a) g.1 in
-    subst (λ (z : Course). Image R (GoesNew x z) u t) (sym h.1) (
+    subst (λ (z : Course). Image R (GoesOnce x z) u t) (sym h.1) (
       noted (slot + 1) k.0,
       (k.0, k.1, refl),
       subst (λ (z : Stand). AreAlike R z (noted (slot + 1) k.0)) (sym g.2) (noted_alike R (slot + 1) g.0 k.0 k.2),
@@ -151,10 +152,12 @@ reaches_both R Wanted Other Goes Also to back w =
     (reaches_wanted R Wanted Other Goes Also to w.0, reaches_wanted (Back R) Other Wanted Also Goes back w.1)
 
 -- the first way of the one is that of the other
-abbrev AreFirst : (ℕ → ℕ → Type 0) → ((Stand → Type 0) → Stand → Stand → Type 0) → ((Stand → Type 0) → Stand → Stand → Type 0) → Type 1
+abbrev AreFirst : (ℕ → ℕ → Type 0) → ((Stand → Type 0) → Stand → Stand → Type 0) → ((Stand → Type 0) → Stand → Stand → Type 0)
+    → Type 1
 AreFirst R First Also = (Wanted Other : Stand → Type 0) → AreBoth R Wanted Other → AreSame R (First Wanted) (Also Other)
 
-turns_first : (R : ℕ → ℕ → Type 0) (First Also : (Stand → Type 0) → Stand → Stand → Type 0) (Goes Other : Stand → Stand → Type 0) (v w : ℕ) (greedy : Bool)
+turns_first : (R : ℕ → ℕ → Type 0) (First Also : (Stand → Type 0) → Stand → Stand → Type 0)
+    (Goes Other : Stand → Stand → Type 0) (v w : ℕ) (greedy : Bool)
     → IsOneToOne R → R v w → AreSame R Goes Other → AreSame (Back R) Other Goes → AreFirst R First Also → (n : ℕ)
     → AreFirst R (λ Such k l. FirstTurns First Goes v greedy n Such k l) (λ Such k l. FirstTurns Also Other w greedy n Such k l)
 turns_first R First Also Goes Other v w greedy o r to back first zero Wanted Such both s u t a f =
@@ -184,55 +187,56 @@ turns_first R First Also Goes Other v w greedy o r to back first (suc n) Wanted 
     )
 
 pub first_same : (x : Subject) (R : ℕ → ℕ → Type 0) (c e : Course) → IsOneToOne R → AreRenamed R c e
-    → AreFirst R (λ Such k l. IsFirstNew x c Such k l) (λ Such k l. IsFirstNew x e Such k l)
+    → AreFirst R (λ Such k l. IsFirstOnce x c Such k l) (λ Such k l. IsFirstOnce x e Such k l)
 first_same x R Skip e o h W O both s u t a f =
     let here : AreAlike R t u = subst (λ (z : Stand). AreAlike R z u) f.0 a in
-    subst (λ (z : Course). Image R (λ k l. IsFirstNew x z O k l) u t) (sym h) (u, (refl, both.0 t u here f.1), here)
+    subst (λ (z : Course). Image R (λ k l. IsFirstOnce x z O k l) u t) (sym h) (u, (refl, both.0 t u here f.1), here)
 first_same x R Dead e o h W O both s u t a f = absurd f
 first_same x R (Byte p q) e o h W O both s u t a f =
     let k = goes_same x R (Byte p q) (Byte p q) o refl s u t a f.0 in
-    subst (λ (z : Course). Image R (λ k l. IsFirstNew x z O k l) u t) (sym h) (k.0, (k.1, both.0 t k.0 k.2 f.1), k.2)
+    subst (λ (z : Course). Image R (λ k l. IsFirstOnce x z O k l) u t) (sym h) (k.0, (k.1, both.0 t k.0 k.2 f.1), k.2)
 first_same x R (Here look) e o h W O both s u t a f =
     let k = goes_same x R (Here look) (Here look) o refl s u t a f.0 in
-    subst (λ (z : Course). Image R (λ k l. IsFirstNew x z O k l) u t) (sym h) (k.0, (k.1, both.0 t k.0 k.2 f.1), k.2)
+    subst (λ (z : Course). Image R (λ k l. IsFirstOnce x z O k l) u t) (sym h) (k.0, (k.1, both.0 t k.0 k.2 f.1), k.2)
 first_same x R (After c d) e o h W O both s u t a f =
-    let k = first_same x R c h.0 o h.3 (Reaches W (GoesNew x d)) (Reaches O (GoesNew x h.1))
-    (reaches_both R W O (GoesNew x d) (GoesNew x h.1) (goes_same x R d h.1 o h.4)
+    let k = first_same x R c h.0 o h.3 (Reaches W (GoesOnce x d)) (Reaches O (GoesOnce x h.1))
+    (reaches_both R W O (GoesOnce x d) (GoesOnce x h.1) (goes_same x R d h.1 o h.4)
     (goes_same x (Back R) h.1 d (one_back R o) (renamed_back R d h.1 h.4)) both) s u f.0 a f.1 in
     let l = first_same x R d h.1 o h.4 W O both f.0 k.0 t k.2 f.2 in
-    subst (λ (z : Course). Image R (λ k l. IsFirstNew x z O k l) u t) (sym h.2) (l.0, (k.0, k.1, l.1), l.2)
+    subst (λ (z : Course). Image R (λ k l. IsFirstOnce x z O k l) u t) (sym h.2) (l.0, (k.0, k.1, l.1), l.2)
 first_same x R (Choose w c d) e o h W O both s u t a f =
     let b = chosen_alike R w h.0 s u o h.4 a in
-    let new : IsNew h.0 u = λ m. f.0 (a.back w h.0 h.4 m) in
-    let reach = reaches_both R W O (GoesNew x c) (GoesNew x h.1) (goes_same x R c h.1 o h.5)
+    let new : IsUnmade h.0 u = λ m. f.0 (a.back w h.0 h.4 m) in
+    let reach = reaches_both R W O (GoesOnce x c) (GoesOnce x h.1) (goes_same x R c h.1 o h.5)
     (goes_same x (Back R) h.1 c (one_back R o) (renamed_back R c h.1 h.5)) both in
-    subst (λ (z : Course). Image R (λ k l. IsFirstNew x z O k l) u t) (sym h.3) (⊎_elim
-    (λ (y : IsFirstNew x c W (chosen w s) t).
+    subst (λ (z : Course). Image R (λ k l. IsFirstOnce x z O k l) u t) (sym h.3) (⊎_elim
+    (λ (y : IsFirstOnce x c W (chosen w s) t).
     let k = first_same x R c h.1 o h.5 W O both (chosen w s) (chosen h.0 u) t b y in (k.0, (new, inl k.1), k.2))
-    (λ (y : (Reaches W (GoesNew x c) (chosen w s) → ⊥) × IsFirstNew x d W (chosen w s) t).
+    (λ (y : (Reaches W (GoesOnce x c) (chosen w s) → ⊥) × IsFirstOnce x d W (chosen w s) t).
     let k = first_same x R d h.2 o h.6 W O both (chosen w s) (chosen h.0 u) t b y.1 in
     (k.0, (new, inr (λ z. y.0 (reach.1 (chosen h.0 u) (chosen w s) (alike_back R (chosen w s) (chosen h.0 u) b) z), k.1)), k.2))
     f.1)
 first_same x R (Turn w greedy c) e o h W O both s u t a f =
-    let k = turns_first R (λ Such k l. IsFirstNew x c Such k l) (λ Such k l. IsFirstNew x h.1 Such k l) (GoesNew x c) (GoesNew x h.1) w h.0 greedy o h.3
+    let k = turns_first R (λ Such k l. IsFirstOnce x c Such k l) (λ Such k l. IsFirstOnce x h.1 Such k l) (GoesOnce x c) (GoesOnce x h.1) w h.0 greedy o h.3
     (goes_same x R c h.1 o h.4) (goes_same x (Back R) h.1 c (one_back R o) (renamed_back R c h.1 h.4)) (first_same x R c h.1 o h.4) f.0 W O both s u t a f.1 in
-    subst (λ (z : Course). Image R (λ k l. IsFirstNew x z O k l) u t) (sym h.2) (k.0, (f.0, k.1), k.2)
+    subst (λ (z : Course). Image R (λ k l. IsFirstOnce x z O k l) u t) (sym h.2) (k.0, (f.0, k.1), k.2)
 first_same x R (Again w greedy c) e o h W O both s u t a f =
-    let to : AreSame R (GoesNew x c) (GoesNew x h.1) = goes_same x R c h.1 o h.4 in
-    let back : AreSame (Back R) (GoesNew x h.1) (GoesNew x c) = goes_same x (Back R) h.1 c (one_back R o) (renamed_back R c h.1 h.4) in
-    let rounds = reaches_both R W O (SomeTurns (GoesNew x c) w) (SomeTurns (GoesNew x h.1) h.0) (some_turns_same R (GoesNew x c) (GoesNew x h.1) w h.0 o h.3 to)
-    (some_turns_same (Back R) (GoesNew x h.1) (GoesNew x c) h.0 w (one_back R o) h.3 back) both in
-    let k = first_same x R c h.1 o h.4 (Reaches W (SomeTurns (GoesNew x c) w)) (Reaches O (SomeTurns (GoesNew x h.1) h.0)) rounds s u f.0 a f.1 in
-    let l = turns_first R (λ Such k l. IsFirstNew x c Such k l) (λ Such k l. IsFirstNew x h.1 Such k l) (GoesNew x c) (GoesNew x h.1) w h.0 greedy o h.3
+    let to : AreSame R (GoesOnce x c) (GoesOnce x h.1) = goes_same x R c h.1 o h.4 in
+    let back : AreSame (Back R) (GoesOnce x h.1) (GoesOnce x c) = goes_same x (Back R) h.1 c (one_back R o) (renamed_back R c h.1 h.4) in
+    let rounds = reaches_both R W O (SomeTurns (GoesOnce x c) w) (SomeTurns (GoesOnce x h.1) h.0)
+    (some_turns_same R (GoesOnce x c) (GoesOnce x h.1) w h.0 o h.3 to)
+    (some_turns_same (Back R) (GoesOnce x h.1) (GoesOnce x c) h.0 w (one_back R o) h.3 back) both in
+    let k = first_same x R c h.1 o h.4 (Reaches W (SomeTurns (GoesOnce x c) w)) (Reaches O (SomeTurns (GoesOnce x h.1) h.0)) rounds s u f.0 a f.1 in
+    let l = turns_first R (λ Such k l. IsFirstOnce x c Such k l) (λ Such k l. IsFirstOnce x h.1 Such k l) (GoesOnce x c) (GoesOnce x h.1) w h.0 greedy o h.3
     to back (first_same x R c h.1 o h.4) f.2 W O both f.0 k.0 t k.2 f.3 in
-    subst (λ (z : Course). Image R (λ k l. IsFirstNew x z O k l) u t) (sym h.2) (l.0, (k.0, k.1, f.2, l.1), l.2)
+    subst (λ (z : Course). Image R (λ k l. IsFirstOnce x z O k l) u t) (sym h.2) (l.0, (k.0, k.1, f.2, l.1), l.2)
 first_same x R (Within slot c) e o h W O both s u t a f =
     let k = first_same x R c h.0 o h.2 (λ l. W (noted (slot + 1) l)) (λ l. O (noted (slot + 1) l)) (
       λ l m b y. both.0 (noted (slot + 1) l) (noted (slot + 1) m) (noted_alike R (slot + 1) l m b) y,
       λ l m b y. both.1 (noted (slot + 1) l) (noted (slot + 1) m) (noted_alike (Back R) (slot + 1) l m b) y,
     )
     (noted slot s) (noted slot u) f.0 (noted_alike R slot s u a) f.1 in
-    subst (λ (z : Course). Image R (λ k l. IsFirstNew x z O k l) u t) (sym h.1) (
+    subst (λ (z : Course). Image R (λ k l. IsFirstOnce x z O k l) u t) (sym h.1) (
       noted (slot + 1) k.0,
       (k.0, k.1, refl),
       subst (λ (z : Stand). AreAlike R z (noted (slot + 1) k.0)) (sym f.2) (noted_alike R (slot + 1) f.0 k.0 k.2),
@@ -284,8 +288,8 @@ renamed_itself P (Within slot c) h = (c, refl, renamed_itself P c h)
 
 -- a choice that is none of the course's may have been made or not
 pub without : (x : Subject) (c : Course) (W : Stand → Type 0) (w most : ℕ) (s t : Stand) → most ≤ w → IsIn (λ v. v < most) (choices c)
-    → AreBoth (IsItself (λ v. v < most)) W W → IsFirstNew x c W (chosen w s) t
-    → (u : Stand) × IsFirstNew x c W s u × AreAlike (IsItself (λ v. v < most)) t u
+    → AreBoth (IsItself (λ v. v < most)) W W → IsFirstOnce x c W (chosen w s) t
+    → (u : Stand) × IsFirstOnce x c W s u × AreAlike (IsItself (λ v. v < most)) t u
 without x c W w most s t l h both f =
     first_same x (IsItself (λ v. v < most)) c c (one_itself (λ v. v < most)) (renamed_itself (λ v. v < most) c h) W W both (chosen w s) s t (record {
       at = refl;

@@ -63,7 +63,8 @@ marked-next n list marks k s f l is states = record {
     there : s < length marks
     there = omega (arith, f.len, is, states k 0 l)
 
-pub marked-last : (n : ℕ) (list : List ℕ) (marks : List Bool) (k : ℕ) → IsMarkedTo n list marks k → length list ≤ k → AreStates n list → Gathers marks list
+pub marked-last : (n : ℕ) (list : List ℕ) (marks : List Bool) (k : ℕ) → IsMarkedTo n list marks k → length list ≤ k → AreStates n list
+    → Gathers marks list
 marked-last n list marks k f past states = record {
   marked = f.only;
   listed = λ s has. (
@@ -152,7 +153,8 @@ pub record IsClosing (e : Search) (i n : ℕ) (before marks : List Bool) : Type 
   pub led : (list : List ℕ) → AreLedBack e i list before → AreLedBack e i list marks
   pub kept : (s : ℕ) → IsMarked before s → IsMarked marks s
 
-pub closing-last : (e : Search) (i n : ℕ) (before marks : List Bool) (list : List ℕ) → IsClosing e i n before marks → IsShut e i marks → Gathers before list
+pub closing-last : (e : Search) (i n : ℕ) (before marks : List Bool) (list : List ℕ) → IsClosing e i n before marks → IsShut e i marks
+    → Gathers before list
     → IsClosedBack e i list marks
 closing-last e i n before marks list f shut g = record {
   led = f.led list (λ s m. seed s (inl (g.marked s m)));
@@ -196,7 +198,8 @@ module _ (n : ℕ) (Hit : ℕ → Type 0) (list : List ℕ) (k s : ℕ) (f : IsL
     states = f.states;
   }
 
-pub listed-last : (n : ℕ) (Hit : ℕ → Type 0) (list : List ℕ) (k : ℕ) → IsListed n Hit list k → ((s : ℕ) → Hit s → s < n) → n ≤ k → Lists Hit list
+pub listed-last : (n : ℕ) (Hit : ℕ → Type 0) (list : List ℕ) (k : ℕ) → IsListed n Hit list k → ((s : ℕ) → Hit s → s < n) → n ≤ k
+    → Lists Hit list
 listed-last n Hit list k f there past = record { only = f.only; all = λ s h. f.all s (omega (arith, there s h, past)) h }
 
 -- nothing is so of any state

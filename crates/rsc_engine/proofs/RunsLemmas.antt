@@ -10,7 +10,7 @@ use Rattle.rsc_captures.specs.Captured.{Captured}
 use Rattle.rsc_search.specs.Matches.{Matched}
 use Rattle.rsc_engine.specs.Searches.{Search}
 use Rattle.rsc_engine.specs.Runs.{Leads, IsPlace, IsMatchRun}
-use Rattle.rsc_engine.specs.Preferred.{IsOf}
+use Rattle.rsc_engine.specs.Preferred.{IsMatchWithRecords}
 
 -- ---- the positions of a run
 
@@ -34,7 +34,8 @@ run_rises e run j (suc m) r l =
     let step = r.steps (j + m) (omega (arith, l)) in
     rw same (omega (arith, run_rises e run j m r (omega (arith, l)), leads-rises e (place run (j + m)) (place run (j + m + 1)) step))
 
-pub run-rises : (e : Search) (run : List (ℕ × ℕ)) (j k : ℕ) → IsRun e.states e.terminator e.word_chars e.haystack e.start e.end run → j ≤ k → k < length run
+pub run-rises : (e : Search) (run : List (ℕ × ℕ)) (j k : ℕ) → IsRun e.states e.terminator e.word_chars e.haystack e.start e.end run → j ≤ k
+    → k < length run
     → (place run j).1 ≤ (place run k).1
 run-rises e run j k r le l =
     let same : j + (k - j) ≡ k = omega (arith, le) in
@@ -54,7 +55,8 @@ recorded-place states (p ∷ (q ∷ rest)) slot i h =
     go (recorded states (q ∷ rest) slot) (is_capture_of slot (slice_get states p.0)) (recorded-place states (q ∷ rest) slot i) h
   where
     go : (later : Option ℕ) (here : Bool) → (later ≡ Some i → (k : ℕ) × (k < length (q ∷ rest)) × ((place (q ∷ rest) k).1 ≡ i))
-        → or_earlier later (cond here (Some p.1) None) ≡ Some i → (k : ℕ) × (k < length (p ∷ (q ∷ rest))) × ((place (p ∷ (q ∷ rest)) k).1 ≡ i)
+        → or_earlier later (cond here (Some p.1) None) ≡ Some i → (k : ℕ) × (k < length (p ∷ (q ∷ rest)))
+        × ((place (p ∷ (q ∷ rest)) k).1 ≡ i)
     go (Some j) here found is = let f = found is in (suc f.0, omega (arith, f.1), f.2)
     go None true found is = (0, omega arith, some_same p.1 i is)
     go None false found is = absurd (cc)
@@ -63,7 +65,8 @@ recorded-place states (p ∷ (q ∷ rest)) slot i h =
 pub step-within : (e : Search) (p q : ℕ × ℕ) → Leads e p q → p.0 < length e.states
 step-within e p q l = go (slice_get e.states p.0) refl l
   where
-    go : (o : Option State) → slice_get e.states p.0 ≡ o → MatchOption o ⊥ (λ (state : State). StepsTo state e.terminator e.word_chars e.haystack e.end p.1 q)
+    go : (o : Option State) → slice_get e.states p.0 ≡ o
+        → MatchOption o ⊥ (λ (state : State). StepsTo state e.terminator e.word_chars e.haystack e.end p.1 q)
         → p.0 < length e.states
     go None is x = absurd x
     go (Some state) is x = slice_get_within e.states p.0 state is
@@ -109,7 +112,7 @@ match-wider e from n p run low high m = record {
 
 -- each offset of a match is within its span
 pub offset-within : (e : Search) (from : ℕ × ℕ) (run : List (ℕ × ℕ)) (found : Matched) (captures : Captured) (slot i : ℕ) → IsMatchRun e from run
-    → IsOf e run found captures → get_or captures.offsets slot None ≡ Some i → (found.span.start ≤ i) × (i ≤ found.span.end)
+    → IsMatchWithRecords e run found captures → get_or captures.offsets slot None ≡ Some i → (found.span.start ≤ i) × (i ≤ found.span.end)
 offset-within e from run found captures slot i m o at = (
   omega (arith, o.ends.start, from_first, at_place.2),
   omega (arith, o.ends.end, to_last, at_place.2),

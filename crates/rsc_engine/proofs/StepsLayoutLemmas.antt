@@ -13,7 +13,8 @@ use Rattle.rsc_engine.proofs.RunsLemmas.{leads-rises}
 
 -- ---- where steps lead
 
-step_end : (state : State) (x : Subject) (end i : ℕ) (q : ℕ × ℕ) → StepsTo state x.terminator x.word_chars x.haystack end i q → i ≤ end → q.1 ≤ end
+step_end : (state : State) (x : Subject) (end i : ℕ) (q : ℕ × ℕ) → StepsTo state x.terminator x.word_chars x.haystack end i q → i ≤ end
+    → q.1 ≤ end
 step_end (ByteRange a b next) x end i q s l = omega (arith, s.0, s.3)
 step_end (Assert look next) x end i q s l = omega (arith, l, s.2)
 step_end (Fork a b) x end i q s l = omega (arith, l, s.1)
@@ -21,7 +22,8 @@ step_end (Capture slot next) x end i q s l = omega (arith, l, s.1)
 step_end (Accept p) x end i q s l = absurd s
 
 -- a step from a position up to the end leads to another
-pub leads_end : (states : List State) (x : Subject) (end : ℕ) (p q : ℕ × ℕ) → IsStep states x.terminator x.word_chars x.haystack end p q → p.1 ≤ end
+pub leads_end : (states : List State) (x : Subject) (end : ℕ) (p q : ℕ × ℕ) → IsStep states x.terminator x.word_chars x.haystack end p q
+    → p.1 ≤ end
     → q.1 ≤ end
 leads_end states x end p q step l = go (slice_get states p.0) step
   where
@@ -38,7 +40,8 @@ step_of states x end s p q state same is step =
 
 -- ---- the steps of a run
 
-rest_is_run : (e : Search) (p q : ℕ × ℕ) (rest : List (ℕ × ℕ)) → IsRun e.states e.terminator e.word_chars e.haystack e.start e.end (p ∷ (q ∷ rest))
+rest_is_run : (e : Search) (p q : ℕ × ℕ) (rest : List (ℕ × ℕ))
+    → IsRun e.states e.terminator e.word_chars e.haystack e.start e.end (p ∷ (q ∷ rest))
     → IsRun e.states e.terminator e.word_chars e.haystack e.start e.end (q ∷ rest)
 rest_is_run e p q rest r = record {
   places = λ k l. r.places (suc k) (omega (arith, l));
@@ -108,7 +111,8 @@ pub record Short (states : List State) (x : Subject) (end : ℕ) (p last : ℕ �
   pub once : AreDistinct (p ∷ rest)
 
 -- of such steps those from a place on
-cut : (states : List State) (x : Subject) (end : ℕ) (p q last : ℕ × ℕ) (rest : List (ℕ × ℕ)) → AreSteps states x end q rest → last_place q rest ≡ last
+cut : (states : List State) (x : Subject) (end : ℕ) (p q last : ℕ × ℕ) (rest : List (ℕ × ℕ)) → AreSteps states x end q rest
+    → last_place q rest ≡ last
     → AreDistinct (q ∷ rest) → IsAmong p (q ∷ rest) → Short states x end p last
 cut states x end p q last rest steps ends once (inl e) =
     subst (λ (z : ℕ × ℕ). Short states x end z last) (sym e) (record { rest = rest; steps = steps; ends = ends; once = once })

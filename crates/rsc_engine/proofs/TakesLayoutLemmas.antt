@@ -25,7 +25,8 @@ AreNumbers-one low high w l h = record { within = here; apart = λ i j d before 
 
 -- an element of two lists together is one of the first or of the second
 at_joined : (xs ys : List ℕ) (k d : ℕ) → k < length (xs ++ ys)
-    → ((k < length xs) × (get_or (xs ++ ys) k d ≡ get_or xs k d)) ⊎ ((h : ℕ) × (k ≡ length xs + h) × (h < length ys) × (get_or (xs ++ ys) k d ≡ get_or ys h d))
+    → ((k < length xs) × (get_or (xs ++ ys) k d ≡ get_or xs k d))
+    ⊎ ((h : ℕ) × (k ≡ length xs + h) × (h < length ys) × (get_or (xs ++ ys) k d ≡ get_or ys h d))
 at_joined [] ys k d l = inr (k, omega arith, l, refl)
 at_joined (x ∷ xs) ys zero d l = inl (omega arith, refl)
 at_joined (x ∷ xs) ys (suc k) d l = ⊎_elim
@@ -33,7 +34,8 @@ at_joined (x ∷ xs) ys (suc k) d l = ⊎_elim
     (λ (b : (h : ℕ) × (k ≡ length xs + h) × (h < length ys) × (get_or (xs ++ ys) k d ≡ get_or ys h d)). inr (b.0, omega (arith, b.1), b.2, b.3))
     (at_joined xs ys k d (omega (arith, l)))
 
-AreNumbers-joined : (low high a b c e : ℕ) (xs ys : List ℕ) → low ≤ a → low ≤ c → b ≤ high → e ≤ high → (b ≤ c) ⊎ (e ≤ a) → AreNumbers a b xs
+AreNumbers-joined : (low high a b c e : ℕ) (xs ys : List ℕ) → low ≤ a → low ≤ c → b ≤ high → e ≤ high → (b ≤ c) ⊎ (e ≤ a)
+    → AreNumbers a b xs
     → AreNumbers c e ys → AreNumbers low high (xs ++ ys)
 AreNumbers-joined low high a b c e xs ys la lc bh eh disjoint x y = record {
   within = λ k d l. ⊎_elim
@@ -114,7 +116,8 @@ Takes-then low middle high first between next p q states l h x y = record {
 }
 
 pub Takes-either : (low middle last high one other id next : ℕ) (p q : Pattern) (states : List State) → low ≤ middle → middle ≤ last → id ≡ last
-    → high ≡ last + 1 → slice_get states id ≡ Some (Fork one other) → TakesCourse low middle other next q states → TakesCourse middle last one next p states
+    → high ≡ last + 1 → slice_get states id ≡ Some (Fork one other) → TakesCourse low middle other next q states
+    → TakesCourse middle last one next p states
     → TakesCourse low high id next (Either p q) states
 Takes-either low middle last high one other id next p q states l m same top is x y = record {
   course = Choose id y.course x.course;
@@ -128,7 +131,8 @@ Takes-either low middle last high one other id next p q states l m same top is x
 
 -- the part or nothing, as `optional` has it
 pub Takes-choice : (low last high one id next : ℕ) (greedy : Bool) (p : Pattern) (states : List State) → low ≤ last → id ≡ last → high ≡ last + 1
-    → slice_get states id ≡ Some (choice_of greedy one next) → TakesCourse low last one next p states → TakesCourse low high id next (optional greedy p) states
+    → slice_get states id ≡ Some (choice_of greedy one next) → TakesCourse low last one next p states
+    → TakesCourse low high id next (optional greedy p) states
 Takes-choice low last high one id next true p states l same top is x =
     Takes-either low low last high one next id next p Empty states (omega arith) l same top is (Takes-empty low low next states) x
 Takes-choice low last high one id next false p states l same top is x =
@@ -152,7 +156,8 @@ Takes-turn low high first f next greedy p states taking same some is x = record 
   course = Turn f greedy x.course;
   is = subst (λ (b : Bool). IsStar (IsCourseOf p) b greedy (Turn f greedy x.course)) (sym taking) (f, x.course, refl, x.is);
   follows = Follows-turn states f first next greedy x.course is x.follows;
-  numbers = AreNumbers-joined low high low (low + 1) (low + 1) high (f ∷ []) (choices x.course) (omega arith) (omega arith) (omega (arith, some)) (omega arith)
+  numbers = AreNumbers-joined low high low (low + 1) (low + 1) high (f ∷ []) (choices x.course) (omega arith) (omega arith) (omega (arith, some))
+      (omega arith)
       (inl (omega arith)) (AreNumbers-one low (low + 1) f (omega (arith, same)) (omega (arith, same))) x.numbers;
 }
 
@@ -164,7 +169,8 @@ Takes-again low high first f next greedy p states same some is x = record {
   course = Again f greedy x.course;
   is = (f, x.course, refl, x.is);
   follows = Follows-again states f first next greedy x.course is x.follows;
-  numbers = AreNumbers-joined low high low (low + 1) (low + 1) high (f ∷ []) (choices x.course) (omega arith) (omega arith) (omega (arith, some)) (omega arith)
+  numbers = AreNumbers-joined low high low (low + 1) (low + 1) high (f ∷ []) (choices x.course) (omega arith) (omega arith) (omega (arith, some))
+      (omega arith)
       (inl (omega arith)) (AreNumbers-one low (low + 1) f (omega (arith, same)) (omega (arith, same))) x.numbers;
 }
 
@@ -180,7 +186,8 @@ pub class-course : (a b : ℕ) (rest : List (ℕ × ℕ)) → 0 < length rest �
 class-course a b [] some c h = absurd (omega (arith, some))
 class-course a b (q ∷ rest) some c h = (h.0, h.2, h.3 ∙ ap (λ (d : Course). Choose h.0 d h.2) h.4, h.5)
 
-pub byte-course : (b : ℕ) (rest : List ℕ) (c : Course) → IsCourseOf (Then (Class ((b, b) ∷ [])) (Literal rest)) c → IsCourseOf (Literal (b ∷ rest)) c
+pub byte-course : (b : ℕ) (rest : List ℕ) (c : Course) → IsCourseOf (Then (Class ((b, b) ∷ [])) (Literal rest)) c
+    → IsCourseOf (Literal (b ∷ rest)) c
 byte-course b rest c h = h.2 ∙ (ap (λ (d : Course). After d h.1) h.3 ∙ ap (λ (e : Course). After (Byte b b) e) h.4)
 
 pub star-course : (greedy : Bool) (p : Pattern) → may_be_empty p ≡ true → (c : Course) → IsCourseOf (optional greedy (Repeat 1 None greedy p)) c

@@ -16,7 +16,8 @@ use Rattle.rsc_engine.proofs.GroupNumbersLemmas.{numbered-goes}
 
 -- ---- a way goes where the pattern goes
 
-times-goes : (R : Point → Point → Type 0) (S : ℕ → ℕ → Type 0) → ((m n : Point) → R m n → S m.0 n.0) → (t : ℕ) (m n : Point) → TimesWith R t m n
+times-goes : (R : Point → Point → Type 0) (S : ℕ → ℕ → Type 0) → ((m n : Point) → R m n → S m.0 n.0) → (t : ℕ) (m n : Point)
+    → TimesWith R t m n
     → Times S t m.0 n.0
 times-goes R S goes zero m n g = ap (λ (k : Point). k.0) g
 times-goes R S goes (suc t) m n g = (g.0.0, goes m g.0 g.1, times-goes R S goes t g.0 n g.2)
@@ -107,14 +108,16 @@ keeps-end f apart g h other m = (
 
 -- ---- groups of other numbers
 
-times-slot : (s : ℕ) (R : Point → Point → Type 0) → ((m n : Point) → R m n → last_in n.1 s ≡ last_in m.1 s) → (t : ℕ) (m n : Point) → TimesWith R t m n
+times-slot : (s : ℕ) (R : Point → Point → Type 0) → ((m n : Point) → R m n → last_in n.1 s ≡ last_in m.1 s) → (t : ℕ) (m n : Point)
+    → TimesWith R t m n
     → last_in n.1 s ≡ last_in m.1 s
 times-slot s R keeps zero m n g = ap (λ (k : Point). last_in k.1 s) (sym g)
 times-slot s R keeps (suc t) m n g = times-slot s R keeps t g.0 n g.2 ∙ keeps m g.0 g.1
 
 -- a slot of none of the pattern's groups holds what it held
 keeps-slot : (f : ℕ → ℕ) (s : ℕ) (x : Subject) (p : Pattern) (n : ℕ)
-    → ((g : ℕ) → n ≤ g → g < n + count_groups p → ((f g ≡ s) → ⊥) × ((f g + 1 ≡ s) → ⊥)) → (m k : Point) → GoesWith x (numbered f n p) m k
+    → ((g : ℕ) → n ≤ g → g < n + count_groups p → ((f g ≡ s) → ⊥) × ((f g + 1 ≡ s) → ⊥)) → (m k : Point)
+    → GoesWith x (numbered f n p) m k
     → last_in k.1 s ≡ last_in m.1 s
 keeps-slot f s x Empty n off m k g = ap (λ (z : Point). last_in z.1 s) (sym g)
 keeps-slot f s x Never n off m k g = absurd g
@@ -177,7 +180,8 @@ may-after x f h a m k n s keeps = ⊎_elim
     (λ (c : IsSetBy x f h a k). inr (set-kept x f h a k n c keeps))
     s
 
-may-times : (x : Subject) (f : ℕ → ℕ) (h : ℕ) (a : Pattern) (R : Point → Point → Type 0) → ((m n : Point) → R m n → MaySet x f h a m n) → (t : ℕ) (m n : Point)
+may-times : (x : Subject) (f : ℕ → ℕ) (h : ℕ) (a : Pattern) (R : Point → Point → Type 0) → ((m n : Point) → R m n → MaySet x f h a m n)
+    → (t : ℕ) (m n : Point)
     → TimesWith R t m n → MaySet x f h a m n
 may-times x f h a R may zero m n g = inl (keeps-same f h m n (ap (λ (k : Point). k.1) g))
 may-times x f h a R may (suc t) m n g = ⊎_elim
@@ -351,7 +355,8 @@ span_parts offsets s span e = at_start (slice_index_or offsets s None) refl e
         (from ∙ ap (λ (z : Span). Some z.start) same, to ∙ ap (λ (z : Span). Some z.end) same)
 
     at_start : (o : Option ℕ) → slice_index_or offsets s None ≡ o
-        → option_and_then (λ (from : ℕ). option_map (λ (to : ℕ). record { start = from; end = to }) (slice_index_or offsets (s + 1) None)) o ≡ Some span
+        → option_and_then (λ (from : ℕ). option_map (λ (to : ℕ). record { start = from; end = to }) (slice_index_or offsets (s + 1) None)) o
+        ≡ Some span
         → (slice_index_or offsets s None ≡ Some span.start) × (slice_index_or offsets (s + 1) None ≡ Some span.end)
     at_start None from f = absurd (cc)
     at_start (Some i) from f = at_end i from (slice_index_or offsets (s + 1) None) refl f

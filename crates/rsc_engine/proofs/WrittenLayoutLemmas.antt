@@ -5,8 +5,8 @@ use Rattle.rsc_engine.specs.FirstEnds.{loops_take_bytes, HasEndIn, limit_after}
 use Rattle.rsc_engine.specs.Ways.{Point, with_record}
 use Rattle.rsc_engine.specs.FirstWays.{AreFirstRounds, IsFirstWay}
 use Rattle.rsc_engine.specs.LinksLayout.{copies, optional, up_to}
-use Rattle.rsc_engine.specs.Courses.{Course, Skip, Dead, Byte, Here, After, Choose, Turn, Again, Within, begin}
-use Rattle.rsc_engine.specs.PreferredWays.{may_come, IsOfRanges, bytes_in_order, AreCopies, AreAtMost, IsAgain, IsStar, IsCourseOf, IsPreferredWay}
+use Rattle.rsc_engine.specs.Courses.{Course, Skip, Dead, Byte, Here, After, Choose, Turn, Again, Within, fresh}
+use Rattle.rsc_engine.specs.PreferredWays.{may_come, IsOfRanges, bytes_in_order, AreCopies, AreOptionalCopies, IsAgain, IsStar, IsCourseOf, IsPreferredWay}
 use Rattle.rsc_engine.specs.WrittenLayout.{written}
 use Rattle.rsc_engine.proofs.FirstEndsLemmas.{ends-along, both_are, both, loop-takes, part-loops, up_to-loops, counted-loops}
 use Rattle.rsc_engine.proofs.FirstWaysLemmas.{HasFirstWay, way-alike, class-way, literal-way, literal_none-way, up_to-way, counted-way}
@@ -88,7 +88,8 @@ times-along : (R S : ℕ → ℕ → Type 0) → ((i j : ℕ) → R i j → S i 
 times-along R S on zero i j t = t
 times-along R S on (suc n) i j t = (t.0, on i t.0 t.1, times-along R S on n t.0 j t.2)
 
-some-along : (R S : ℕ → ℕ → Type 0) → ((i j : ℕ) → R i j → S i j) → (min : ℕ) (max : Option ℕ) (i j : ℕ) → SomeTimes R min max i j → SomeTimes S min max i j
+some-along : (R S : ℕ → ℕ → Type 0) → ((i j : ℕ) → R i j → S i j) → (min : ℕ) (max : Option ℕ) (i j : ℕ) → SomeTimes R min max i j
+    → SomeTimes S min max i j
 some-along R S on min max i j t = (t.0, t.1, t.2, times-along R S on t.0 i j t.3)
 
 rounds-like : (x : Subject) (p q : Pattern) (greedy : Bool) → IsLike p q → (times min : ℕ) (max : Option ℕ) (Wanted : ℕ → Type 0) (m n : Point)
@@ -179,7 +180,8 @@ like-bytes : (bytes : List ℕ) → IsLike (written (bytes_in_order bytes)) (Lit
 like-bytes [] = record { to = λ x i j g. g; back = λ x i j g. g; first = literal_none-way; takes = λ e. e; loops = λ e. refl }
 like-bytes (b ∷ rest) =
     like-on (Then (Class ((b, b) ∷ [])) (written (bytes_in_order rest))) (Then (Class ((b, b) ∷ [])) (Literal rest)) (Literal (b ∷ rest))
-    (like-then (Class ((b, b) ∷ [])) (Class ((b, b) ∷ [])) (written (bytes_in_order rest)) (Literal rest) (like-self (Class ((b, b) ∷ []))) (like-bytes rest))
+    (like-then (Class ((b, b) ∷ [])) (Class ((b, b) ∷ [])) (written (bytes_in_order rest)) (Literal rest) (like-self (Class ((b, b) ∷ [])))
+    (like-bytes rest))
     (record { to = literal-is b rest; back = literal-back b rest; first = literal-way b rest; takes = λ e. refl; loops = λ e. refl })
 
 -- courses of the part, and patterns like it
@@ -196,7 +198,7 @@ like-may : (greedy : Bool) (w : ℕ) (d : Course) (p : Pattern) → IsLike (writ
 like-may true w d p a = like-optional true (written d) p a
 like-may false w d p a = like-optional false (written d) p a
 
-like-most : (Is : Course → Type 0) (p : Pattern) → AreLike Is p → (greedy : Bool) (n : ℕ) → AreLike (AreAtMost Is greedy n) (up_to greedy n p)
+like-most : (Is : Course → Type 0) (p : Pattern) → AreLike Is p → (greedy : Bool) (n : ℕ) → AreLike (AreOptionalCopies Is greedy n) (up_to greedy n p)
 like-most Is p like greedy zero c h = like-form c Skip Empty h (like-self Empty)
 like-most Is p like greedy (suc n) c h =
     like-form c (may_come greedy h.0 (After h.1 h.2)) (up_to greedy (suc n) p) h.3
@@ -222,7 +224,8 @@ counted-like k l max greedy p = record {
   loops = counted-loops k l max greedy p;
 }
   where
-    takes : (k l : ℕ) → may_be_empty (Repeat (k + l) max greedy p) ≡ false → may_be_empty (Then (copies k p) (Repeat l (limit_less max k) greedy p)) ≡ false
+    takes : (k l : ℕ) → may_be_empty (Repeat (k + l) max greedy p) ≡ false
+        → may_be_empty (Then (copies k p) (Repeat l (limit_less max k) greedy p)) ≡ false
     takes zero zero e = absurd (true≢false e)
     takes zero (suc l) e = let same : zero + suc l ≡ suc l = omega arith in rw same at e
     takes (suc k) l e =
@@ -292,7 +295,7 @@ pub preferred-first : (x : Subject) (p : Pattern) (Wanted : ℕ → Type 0) (i j
 preferred-first x p Wanted i j records l f =
     subst (λ (m : Point). IsFirstWay x p Wanted (i, []) m) (ap (λ (k : ℕ). (k, f.1.records)) f.3 ∙ ap (λ (r : List (ℕ × ℕ)). (j, r)) f.4)
     (like.first x Wanted (i, []) (f.1.at, f.1.records)
-    (plain x f.0.course (like.loops l) (apart-of f.0.course f.0.apart) (λ s. Wanted s.at) Wanted (begin i) f.1 (λ v m c. absurd (omega (arith, c.1)))
+    (plain x f.0.course (like.loops l) (apart-of f.0.course f.0.apart) (λ s. Wanted s.at) Wanted (fresh i) f.1 (λ v m c. absurd (omega (arith, c.1)))
     (λ u m. (λ w. w, λ w. w)) f.2))
   where
     like : IsLike (written f.0.course) p

@@ -9,7 +9,7 @@ use Rattle.rsc_engine.specs.ArrivalsLayout.{Arrives}
 use Rattle.rsc_engine.specs.AlongLayout.{IsRecorded}
 
 -- a program, and the input whose matches are ahead
-pub record Whole (W : Type 0) : Type 0 where
+pub record AheadOf (W : Type 0) : Type 0 where
   pub program : Compiled W
   pub input : InputParts
 

@@ -8,9 +8,9 @@ use Rattle.rsc_engine.specs.Runs.{AreRecords}
 use Rattle.rsc_engine.specs.Preferred.{IsPreferred}
 use Rattle.rsc_engine.specs.DecidesLayout.{last_of, IsHopeless, IsBest, IsMore, unseen}
 use Rattle.rsc_engine.specs.ArrivalsLayout.{Arrives, ArrivesOver}
-use Rattle.rsc_engine.specs.OrderedLayout.{IsWayOn}
-use Rattle.rsc_engine.specs.declared.dfa.ordered.Way.{Way}
-use Rattle.rsc_engine.specs.declared.dfa.ordered.Way.TheVariants.{Stuck, One, Over, Two, Match}
+use Rattle.rsc_engine.specs.OrderedLayout.{IsActionOf}
+use Rattle.rsc_engine.specs.declared.dfa.ordered.Action.{Action}
+use Rattle.rsc_engine.specs.declared.dfa.ordered.Action.TheVariants.{Stuck, One, OverByte, Two, Match}
 
 -- ---- from position to position
 
@@ -55,12 +55,12 @@ pub record IsInPlace (e : Search) (i s t : ℕ) : Type 0 where
   pub none : (seen after : ℕ → Bool) → IsMore seen s after → IsHopeless e i after t → IsHopeless e i seen s
 
 -- what the state does at the position, if steps that lead to no match are left out
-abbrev pub IsWayAlong : Search → ℕ → ℕ → Way → Type 0
-IsWayAlong e i s Stuck = (seen : ℕ → Bool) → IsHopeless e i seen s
-IsWayAlong e i s (One t) = IsInPlace e i s t
-IsWayAlong e i s (Over t) = IsWayOn e i s (Over t) × ArrivesOver e s i
-IsWayAlong e i s (Two a b) = IsWayOn e i s (Two a b)
-IsWayAlong e i s (Match p) = IsWayOn e i s (Match p)
+abbrev pub IsActionAlong : Search → ℕ → ℕ → Action → Type 0
+IsActionAlong e i s Stuck = (seen : ℕ → Bool) → IsHopeless e i seen s
+IsActionAlong e i s (One t) = IsInPlace e i s t
+IsActionAlong e i s (OverByte t) = IsActionOf e i s (OverByte t) × ArrivesOver e s i
+IsActionAlong e i s (Two a b) = IsActionOf e i s (Two a b)
+IsActionAlong e i s (Match p) = IsActionOf e i s (Match p)
 
 -- these states at the position
 abbrev pub all_at : ℕ → List ℕ → List (ℕ × ℕ)

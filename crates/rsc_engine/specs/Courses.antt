@@ -10,7 +10,7 @@ use Rattle.rsc_engine.specs.Patterns.{Subject}
 pub data Course : Type 0 where
   -- no byte
   Skip : Course
-  -- nothing, not even no byte
+  -- nothing, not even the empty string
   Dead : Course
   -- a byte from the one to the other
   Byte : ℕ → ℕ → Course
@@ -34,8 +34,8 @@ pub record Stand : Type 0 where
   pub made : List ℕ
 
 -- where nothing was recorded or chosen yet
-abbrev pub begin : ℕ → Stand
-begin i = record { at = i; records = []; made = [] }
+abbrev pub fresh : ℕ → Stand
+fresh i = record { at = i; records = []; made = [] }
 
 -- after a byte
 abbrev pub further : Stand → Stand
@@ -50,55 +50,56 @@ abbrev pub noted : ℕ → Stand → Stand
 noted slot s = record { at = s.at; records = (slot, s.at) ∷ s.records; made = s.made }
 
 -- the choice was not made at this position yet
-abbrev pub IsNew : ℕ → Stand → Type 0
-IsNew w s = ¬ (Contains s.made w)
+abbrev pub IsUnmade : ℕ → Stand → Type 0
+IsUnmade w s = ¬ (Contains s.made w)
 
 -- n rounds
 abbrev pub Turns : (Stand → Stand → Type 0) → ℕ → ℕ → Stand → Stand → Type 0
-Turns R w zero s t = IsNew w s × (t ≡ chosen w s)
-Turns R w (suc n) s t = IsNew w s × (k : Stand) × R (chosen w s) k × Turns R w n k t
+Turns R w zero s t = IsUnmade w s × (t ≡ chosen w s)
+Turns R w (suc n) s t = IsUnmade w s × (k : Stand) × R (chosen w s) k × Turns R w n k t
 
 -- any number of rounds
 abbrev pub SomeTurns : (Stand → Stand → Type 0) → ℕ → Stand → Stand → Type 0
 SomeTurns R w s t = (n : ℕ) × Turns R w n s t
 
 -- the course goes from the one to the other, and makes no choice twice at one position
-abbrev pub GoesNew : Subject → Course → Stand → Stand → Type 0
-GoesNew x Skip s t = s ≡ t
-GoesNew x Dead s t = ⊥
-GoesNew x (Byte a b) s t = IsTrue (is_between a b (slice_get x.haystack s.at)) × (t ≡ further s)
-GoesNew x (Here look) s t = Holds look x.terminator x.word_chars x.haystack s.at × (s ≡ t)
-GoesNew x (After c d) s t = (k : Stand) × GoesNew x c s k × GoesNew x d k t
-GoesNew x (Choose w c d) s t = IsNew w s × (GoesNew x c (chosen w s) t ⊎ GoesNew x d (chosen w s) t)
-GoesNew x (Turn w greedy c) s t = SomeTurns (GoesNew x c) w s t
-GoesNew x (Again w greedy c) s t = (k : Stand) × GoesNew x c s k × SomeTurns (GoesNew x c) w k t
-GoesNew x (Within slot c) s t = (k : Stand) × GoesNew x c (noted slot s) k × (t ≡ noted (slot + 1) k)
+abbrev pub GoesOnce : Subject → Course → Stand → Stand → Type 0
+GoesOnce x Skip s t = s ≡ t
+GoesOnce x Dead s t = ⊥
+GoesOnce x (Byte a b) s t = IsTrue (is_between a b (slice_get x.haystack s.at)) × (t ≡ further s)
+GoesOnce x (Here look) s t = Holds look x.terminator x.word_chars x.haystack s.at × (s ≡ t)
+GoesOnce x (After c d) s t = (k : Stand) × GoesOnce x c s k × GoesOnce x d k t
+GoesOnce x (Choose w c d) s t = IsUnmade w s × (GoesOnce x c (chosen w s) t ⊎ GoesOnce x d (chosen w s) t)
+GoesOnce x (Turn w greedy c) s t = SomeTurns (GoesOnce x c) w s t
+GoesOnce x (Again w greedy c) s t = (k : Stand) × GoesOnce x c s k × SomeTurns (GoesOnce x c) w k t
+GoesOnce x (Within slot c) s t = (k : Stand) × GoesOnce x c (noted slot s) k × (t ≡ noted (slot + 1) k)
 
 -- it goes to where something is wanted
 abbrev pub Reaches : (Stand → Type 0) → (Stand → Stand → Type 0) → Stand → Type 0
 Reaches Wanted R s = (t : Stand) × R s t × Wanted t
 
 -- n rounds, each the first from which the rest leads to where something is wanted: as often as that leads there, or as seldom
-abbrev pub FirstTurns : ((Stand → Type 0) → Stand → Stand → Type 0) → (Stand → Stand → Type 0) → ℕ → Bool → ℕ → (Stand → Type 0) → Stand → Stand → Type 0
+abbrev pub FirstTurns : ((Stand → Type 0) → Stand → Stand → Type 0) → (Stand → Stand → Type 0) → ℕ → Bool → ℕ → (Stand → Type 0)
+    → Stand → Stand → Type 0
 FirstTurns First R w greedy zero Wanted s t =
-    IsNew w s × (t ≡ chosen w s) × Wanted t × (greedy ≡ true → ¬ (Reaches (Reaches Wanted (SomeTurns R w)) R (chosen w s)))
+    IsUnmade w s × (t ≡ chosen w s) × Wanted t × (greedy ≡ true → ¬ (Reaches (Reaches Wanted (SomeTurns R w)) R (chosen w s)))
 FirstTurns First R w greedy (suc n) Wanted s t =
-    IsNew w s × (greedy ≡ false → ¬ (Wanted (chosen w s)))
+    IsUnmade w s × (greedy ≡ false → ¬ (Wanted (chosen w s)))
     × (k : Stand) × First (Reaches Wanted (SomeTurns R w)) (chosen w s) k × FirstTurns First R w greedy n Wanted k t
 
 -- of the ways of the course to where something is wanted, which make no choice twice at one position, the first goes from the one to the other
-abbrev pub IsFirstNew : Subject → Course → (Stand → Type 0) → Stand → Stand → Type 0
-IsFirstNew x Skip Wanted s t = (s ≡ t) × Wanted t
-IsFirstNew x Dead Wanted s t = ⊥
-IsFirstNew x (Byte a b) Wanted s t = GoesNew x (Byte a b) s t × Wanted t
-IsFirstNew x (Here look) Wanted s t = GoesNew x (Here look) s t × Wanted t
-IsFirstNew x (After c d) Wanted s t = (k : Stand) × IsFirstNew x c (Reaches Wanted (GoesNew x d)) s k × IsFirstNew x d Wanted k t
-IsFirstNew x (Choose w c d) Wanted s t =
-    IsNew w s × (IsFirstNew x c Wanted (chosen w s) t ⊎ ((¬ (Reaches Wanted (GoesNew x c) (chosen w s))) × IsFirstNew x d Wanted (chosen w s) t))
-IsFirstNew x (Turn w greedy c) Wanted s t =
-    (n : ℕ) × FirstTurns (λ Such k l. IsFirstNew x c Such k l) (GoesNew x c) w greedy n Wanted s t
-IsFirstNew x (Again w greedy c) Wanted s t =
-    (k : Stand) × IsFirstNew x c (Reaches Wanted (SomeTurns (GoesNew x c) w)) s k
-    × (n : ℕ) × FirstTurns (λ Such l m. IsFirstNew x c Such l m) (GoesNew x c) w greedy n Wanted k t
-IsFirstNew x (Within slot c) Wanted s t =
-    (k : Stand) × IsFirstNew x c (λ l. Wanted (noted (slot + 1) l)) (noted slot s) k × (t ≡ noted (slot + 1) k)
+abbrev pub IsFirstOnce : Subject → Course → (Stand → Type 0) → Stand → Stand → Type 0
+IsFirstOnce x Skip Wanted s t = (s ≡ t) × Wanted t
+IsFirstOnce x Dead Wanted s t = ⊥
+IsFirstOnce x (Byte a b) Wanted s t = GoesOnce x (Byte a b) s t × Wanted t
+IsFirstOnce x (Here look) Wanted s t = GoesOnce x (Here look) s t × Wanted t
+IsFirstOnce x (After c d) Wanted s t = (k : Stand) × IsFirstOnce x c (Reaches Wanted (GoesOnce x d)) s k × IsFirstOnce x d Wanted k t
+IsFirstOnce x (Choose w c d) Wanted s t =
+    IsUnmade w s × (IsFirstOnce x c Wanted (chosen w s) t ⊎ ((¬ (Reaches Wanted (GoesOnce x c) (chosen w s))) × IsFirstOnce x d Wanted (chosen w s) t))
+IsFirstOnce x (Turn w greedy c) Wanted s t =
+    (n : ℕ) × FirstTurns (λ Such k l. IsFirstOnce x c Such k l) (GoesOnce x c) w greedy n Wanted s t
+IsFirstOnce x (Again w greedy c) Wanted s t =
+    (k : Stand) × IsFirstOnce x c (Reaches Wanted (SomeTurns (GoesOnce x c) w)) s k
+    × (n : ℕ) × FirstTurns (λ Such l m. IsFirstOnce x c Such l m) (GoesOnce x c) w greedy n Wanted k t
+IsFirstOnce x (Within slot c) Wanted s t =
+    (k : Stand) × IsFirstOnce x c (λ l. Wanted (noted (slot + 1) l)) (noted slot s) k × (t ≡ noted (slot + 1) k)

@@ -2,14 +2,14 @@
 use Rattle.std.specs.Prelude.{◌≡◌, ℕ, ◌≤◌, List, length}
 use Rattle.rsc_nfa.specs.declared.state.State.{State}
 use Rattle.rsc_engine.specs.Patterns.{Subject}
-use Rattle.rsc_engine.specs.Courses.{Course, Stand, GoesNew, IsFirstNew}
+use Rattle.rsc_engine.specs.Courses.{Course, Stand, GoesOnce, IsFirstOnce}
 use Rattle.rsc_engine.specs.PathsLayout.{IsPath, HasPath, Least, arrive}
 
 -- the course goes to where a path that isn't longer leads on from the state `next`, to the same end
 pub record Through (states : List State) (x : Subject) (end m next : ℕ) (c : Course) (s : Stand) (most : ℕ) (last : ℕ × Stand) : Type 0 where
   pub to : Stand
   pub rest : List ℕ
-  pub goes : GoesNew x c s to
+  pub goes : GoesOnce x c s to
   pub path : IsPath states x end m next to rest
   pub ends : arrive states next to rest ≡ last
   pub fewer : length rest ≤ most
@@ -18,7 +18,7 @@ pub record Through (states : List State) (x : Subject) (end m next : ℕ) (c : C
 pub record FirstThrough (states : List State) (x : Subject) (end m next : ℕ) (c : Course) (s : Stand) (most : ℕ) (last : ℕ × Stand) : Type 0 where
   pub to : Stand
   pub rest : List ℕ
-  pub first : IsFirstNew x c (HasPath states x end m next) s to
+  pub first : IsFirstOnce x c (HasPath states x end m next) s to
   pub least : Least states x end m next to rest
   pub ends : arrive states next to rest ≡ last
   pub fewer : length rest ≤ most
@@ -27,6 +27,6 @@ pub record FirstThrough (states : List State) (x : Subject) (end m next : ℕ) (
 pub record Follows (states : List State) (first next : ℕ) (c : Course) : Type 0 where
   pub through : (x : Subject) (end m : ℕ) (s : Stand) (rest : List ℕ) → IsPath states x end m first s rest →
       Through states x end m next c s (length rest) (arrive states first s rest)
-  pub back : (x : Subject) (end m : ℕ) (s t : Stand) → GoesNew x c s t → HasPath states x end m next t → HasPath states x end m first s
+  pub back : (x : Subject) (end m : ℕ) (s t : Stand) → GoesOnce x c s t → HasPath states x end m next t → HasPath states x end m first s
   pub goes : (x : Subject) (end m : ℕ) (s : Stand) (rest : List ℕ) → Least states x end m first s rest →
       FirstThrough states x end m next c s (length rest) (arrive states first s rest)

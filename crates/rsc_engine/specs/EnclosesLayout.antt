@@ -18,4 +18,5 @@ StaysOnWay IsSuch slot (Accept p) = ⊥
 -- the states from low to high are entered at `first` and left to `next` alone, and they record only in slots after the given one
 pub record Encloses (slot low high first next : ℕ) (states : List State) : Type 0 where
   pub begins : IsOnWay low high next first
-  pub stays : (k : ℕ) (state : State) → low ≤ k → k < high → slice_get states k ≡ Some state → StaysOnWay (λ s. IsOnWay low high next s) slot state
+  pub stays : (k : ℕ) (state : State) → low ≤ k → k < high → slice_get states k ≡ Some state
+      → StaysOnWay (λ s. IsOnWay low high next s) slot state

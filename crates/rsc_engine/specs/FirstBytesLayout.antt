@@ -20,7 +20,7 @@ BeginIn n states range marks = (s : ℕ) (state : State) → s < n → slice_get
 -- each match begins with a byte of the range: all states before its first byte are marked
 pub record HasFirst (m : Machine) (range : ℕ × ℕ) : Type 0 where
   pub marks : List Bool
-  pub first : IsMarked marks m.first
+  pub first : IsMarked marks m.start_state
   pub begins : (s : ℕ) (state : State) → slice_get m.states s ≡ Some state → IsMarked marks s → BeginsIn range marks state
 
 -- from one position up to another no byte is of the range

@@ -1,11 +1,12 @@
--- Which way of a pattern is preferred.
+-- Which way of a pattern is tried first: the preferred one, if its loops take bytes.
 use Rattle.std.specs.Prelude.{◌≡◌, ℕ, zero, suc, ◌+◌, ◌-◌, ◌⊎◌, Bool, true, false, Option}
 use Rattle.rsc_engine.specs.Patterns.{Pattern, Empty, Never, Class, Literal, Assertion, Then, Either, Repeat, Group, Subject, SomeTimes, Goes}
 use Rattle.rsc_engine.specs.FirstEnds.{HasEndIn, limit_after, MayRepeat, CanRepeat}
 use Rattle.rsc_engine.specs.Ways.{Point, with_record}
 
 -- the part comes n times, each time on its first way from which the rest leads to a wanted position. When it stops is as for `AreFirstTimes`
-abbrev pub AreFirstRounds : ((ℕ → Type 0) → Point → Point → Type 0) → (ℕ → ℕ → Type 0) → Bool → ℕ → ℕ → Option ℕ → (ℕ → Type 0) → Point → Point → Type 0
+abbrev pub AreFirstRounds : ((ℕ → Type 0) → Point → Point → Type 0) → (ℕ → ℕ → Type 0) → Bool → ℕ → ℕ → Option ℕ
+    → (ℕ → Type 0) → Point → Point → Type 0
 AreFirstRounds First R greedy zero min max Wanted m n = (min ≡ 0) × (m ≡ n) × Wanted n.0 × (greedy ≡ true → ¬ (CanRepeat R min max Wanted m.0))
 AreFirstRounds First R greedy (suc times) min max Wanted m n =
     MayRepeat min max × (greedy ≡ false → min ≡ 0 → ¬ (Wanted m.0))

@@ -4,8 +4,8 @@ use Rattle.rsc_nfa.specs.declared.state.State.{State}
 use Rattle.rsc_engine.specs.Patterns.{Pattern, Group, Subject}
 use Rattle.rsc_engine.specs.Ways.{Point, GoesWith}
 use Rattle.rsc_engine.specs.GroupNumbers.{numbered}
-use Rattle.rsc_engine.specs.WaysLayout.{IsWay, finish}
-use Rattle.rsc_engine.specs.Courses.{Course, Stand, IsFirstNew}
+use Rattle.rsc_engine.specs.WaysLayout.{AreStepsTo, finish}
+use Rattle.rsc_engine.specs.Courses.{Course, Stand, IsFirstOnce}
 use Rattle.rsc_engine.specs.PreferredWays.{HasCourse, choices}
 use Rattle.rsc_engine.specs.PathsLayout.{Least, arrive}
 
@@ -15,12 +15,12 @@ point_of last = (last.0.1, last.1)
 
 -- the first way of a course up to an end leads from the one to a position and records, which are these
 abbrev pub TakesFirst : Subject → Course → ℕ → Stand → Stand → Type 0
-TakesFirst x c end s last = (t : Stand) × IsFirstNew x c (λ k. k.at ≤ end) s t × (t.at ≡ last.at) × (t.records ≡ last.records)
+TakesFirst x c end s last = (t : Stand) × IsFirstOnce x c (λ k. k.at ≤ end) s t × (t.at ≡ last.at) × (t.records ≡ last.records)
 
 -- p is the pattern with the number m, and its groups have these slots: then steps from the state `first` to its match go by the pattern, and the first path
 -- goes the first way of a course of it, whose choices are forks below `high`
 pub record OrdersOne (states : List State) (slot_of : ℕ → ℕ) (high first m : ℕ) (p : Pattern) : Type 0 where
-  pub through : (x : Subject) (end : ℕ) (from : Point) (rest : List (ℕ × ℕ)) → IsWay states x end m (first, from.0) rest →
+  pub through : (x : Subject) (end : ℕ) (from : Point) (rest : List (ℕ × ℕ)) → AreStepsTo states x end m (first, from.0) rest →
       GoesWith x (Group (2 * m) (numbered slot_of 1 p)) from (point_of (finish states (first, from.0) rest from.1))
   pub course : HasCourse (Group (2 * m) (numbered slot_of 1 p))
   pub below : (k d : ℕ) → k < length (choices course.course) → slice_index_or (choices course.course) k d < high

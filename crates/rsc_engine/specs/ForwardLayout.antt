@@ -8,7 +8,7 @@ use Rattle.rsc_engine.specs.declared.dfa.pass_table.PassRow.{PassRow}
 use Rattle.rsc_engine.specs.Searches.{Search}
 use Rattle.rsc_engine.specs.RowsLayout.{Machine, Alike, AddsOne}
 use Rattle.rsc_engine.specs.PassesLayout.{Status, Open, Closed, answer_of, IsFound, IsDue}
-use Rattle.rsc_engine.specs.OrderedLayout.{IsLooked}
+use Rattle.rsc_engine.specs.OrderedLayout.{IsScanned}
 
 -- the search of a small haystack
 abbrev pub beside : Machine → Anchored → List ℕ → Search
@@ -16,7 +16,7 @@ beside m mode near = record {
   states = m.states;
   terminator = m.terminator;
   word_chars = m.word_chars;
-  start_state = m.first;
+  start_state = m.start_state;
   utf8 = m.utf8;
   haystack = near;
   start = 0;
@@ -32,13 +32,13 @@ Continues first begins (Some p) out after next = (after ≡ false) × (next ≡ 
 Continues first true None out after next = (after ≡ true) × AddsOne out first next
 Continues first false None out after next = (after ≡ false) × (next ≡ out)
 
--- a look at the list finds a match of the pattern, or none, and this is the next list
+-- a scan of the list finds a match of the pattern, or none, and this is the next list
 pub record IsAdvanced (e : Search) (i : ℕ) (begins : Bool) (list : List ℕ) (found : Option ℕ) (after : Bool) (next : List ℕ) : Type 0 where
   pub out : List ℕ
-  pub looked : IsLooked e i list found out
+  pub scanned : IsScanned e i list found out
   pub continues : Continues e.start_state begins found out after next
 
--- the pattern and the end of the last match found, after a look at the position
+-- the pattern and the end of the last match found, after a scan at the position
 abbrev pub last_with : Option ℕ → ℕ → Option (ℕ × ℕ) → Option (ℕ × ℕ)
 last_with None i last = last
 last_with (Some p) i last = Some (p, i)

@@ -7,26 +7,28 @@ use Rattle.rsc_look.specs.Holds.{Holds, byte_before, byte_after}
 use Rattle.rsc_look.specs.Keeping.{AgreesWithAscii}
 use Rattle.rsc_nfa.specs.declared.state.State.{State}
 use Rattle.rsc_nfa.specs.Classes.{has_unicode, KeepsRuns, AreInterchangedBy}
-use Rattle.rsc_nfa.specs.Faults.{AreFaultless}
+use Rattle.rsc_nfa.specs.StateFaults.{AreFaultless}
 use Rattle.rsc_nfa.specs.Steps.{IsStep, IsRun, IsWithin, place}
 
 pub record Lawful : Type 0 where
-  pub stays : (states : List State) (t : ℕ) (W : ℕ → Bool) (h k : List ℕ) (end last i j s u : ℕ) → has_unicode states ≡ false
+  pub stays : (states : List State) (t : ℕ) (chars : ℕ → Bool) (h k : List ℕ) (end last i j s u : ℕ) → has_unicode states ≡ false
       → byte_before h i ≡ byte_before k j → byte_after h i ≡ byte_after k j
-      → IsStep states t W h end (s, i) (u, i) → IsStep states t W k last (s, j) (u, j)
-  pub advances : (states : List State) (t : ℕ) (W : ℕ → Bool) (h k : List ℕ) (end last i j s u : ℕ) → byte_after h i ≡ byte_after k j
-      → (i < end → j < last) → IsStep states t W h end (s, i) (u, i + 1) → IsStep states t W k last (s, j) (u, j + 1)
-  pub kept : (classes : List ℕ) (states : List State) (t : ℕ) (W : ℕ → Bool) (h k : List ℕ) (end : ℕ) (p q : ℕ × ℕ) → KeepsRuns classes states t W
+      → IsStep states t chars h end (s, i) (u, i) → IsStep states t chars k last (s, j) (u, j)
+  pub advances : (states : List State) (t : ℕ) (chars : ℕ → Bool) (h k : List ℕ) (end last i j s u : ℕ) → byte_after h i ≡ byte_after k j
+      → (i < end → j < last) → IsStep states t chars h end (s, i) (u, i + 1) → IsStep states t chars k last (s, j) (u, j + 1)
+  pub kept : (classes : List ℕ) (states : List State) (t : ℕ) (chars : ℕ → Bool) (h k : List ℕ) (end : ℕ) (p q : ℕ × ℕ)
+      → KeepsRuns classes states t chars
       → AreInterchangedBy classes (has_unicode states) h k → end ≤ length h → p.1 ≤ end → q.0 < length states
-      → IsStep states t W h end p q ↔ IsStep states t W k end p q
-  pub position : (states : List State) (t : ℕ) (W : ℕ → Bool) (h : List ℕ) (end : ℕ) (p q : ℕ × ℕ) → IsStep states t W h end p q
+      → IsStep states t chars h end p q ↔ IsStep states t chars k end p q
+  pub position : (states : List State) (t : ℕ) (chars : ℕ → Bool) (h : List ℕ) (end : ℕ) (p q : ℕ × ℕ) → IsStep states t chars h end p q
       → (q.1 ≡ p.1) ⊎ ((q.1 ≡ p.1 + 1) × (p.1 < end))
-  pub to : (groups : GroupLists) (states : List State) (t : ℕ) (W : ℕ → Bool) (h : List ℕ) (end : ℕ) (p q : ℕ × ℕ) → AreFaultless groups states
-      → IsStep states t W h end p q → q.0 < length states
-  pub one : (states : List State) (t : ℕ) (W : ℕ → Bool) (h : List ℕ) (start end : ℕ) (p : ℕ × ℕ) → IsWithin states start end p
-      → IsRun states t W h start end (p ∷ [])
-  pub more : (states : List State) (t : ℕ) (W : ℕ → Bool) (h : List ℕ) (start end : ℕ) (run : List (ℕ × ℕ)) (p : ℕ × ℕ)
-      → IsRun states t W h start end run → 0 < length run → p.0 < length states → IsStep states t W h end (place run (length run - 1)) p
-      → IsRun states t W h start end (run ++ p ∷ [])
-  pub ascii : (l : Look) (t : ℕ) (W : ℕ → Bool) (h : List ℕ) (i : ℕ) → i ≤ length h → AgreesWithAscii W
-      → IfSome (byte_before h i) (λ b. b < 128) → IfSome (byte_after h i) (λ b. b < 128) → Holds l t W h i ↔ Holds (ascii_of l) t W h i
+  pub to : (groups : GroupLists) (states : List State) (t : ℕ) (chars : ℕ → Bool) (h : List ℕ) (end : ℕ) (p q : ℕ × ℕ)
+      → AreFaultless groups states
+      → IsStep states t chars h end p q → q.0 < length states
+  pub one : (states : List State) (t : ℕ) (chars : ℕ → Bool) (h : List ℕ) (start end : ℕ) (p : ℕ × ℕ) → IsWithin states start end p
+      → IsRun states t chars h start end (p ∷ [])
+  pub more : (states : List State) (t : ℕ) (chars : ℕ → Bool) (h : List ℕ) (start end : ℕ) (run : List (ℕ × ℕ)) (p : ℕ × ℕ)
+      → IsRun states t chars h start end run → 0 < length run → p.0 < length states → IsStep states t chars h end (place run (length run - 1)) p
+      → IsRun states t chars h start end (run ++ p ∷ [])
+  pub ascii : (l : Look) (t : ℕ) (chars : ℕ → Bool) (h : List ℕ) (i : ℕ) → i ≤ length h → AgreesWithAscii chars
+      → IfSome (byte_before h i) (λ b. b < 128) → IfSome (byte_after h i) (λ b. b < 128) → Holds l t chars h i ↔ Holds (ascii_of l) t chars h i

@@ -11,8 +11,8 @@ pub mod DecidesLayout  -- what an ordered list of states decides: the first of t
 pub mod EnclosesLayout  -- where the states of a part lead, and in which slots they record
 pub mod Ends  -- where matches end
 pub mod FirstBytesLayout  -- with which bytes matches begin
-pub mod FirstEnds  -- which end of a pattern is preferred
-pub mod FirstWays  -- which way of a pattern is preferred
+pub mod FirstEnds  -- which end of a pattern is tried first: the preferred one, if its loops take bytes
+pub mod FirstWays  -- which way of a pattern is tried first: the preferred one, if its loops take bytes
 pub mod FirstsLayout  -- by which ways of a pattern steps lead to its match, and by which the first path does
 pub mod ForwardLayout  -- the forward pass
 pub mod GroupEnds  -- the group of the whole match: what runs record in its slots
@@ -25,11 +25,11 @@ pub mod Lines  -- the lines of a haystack in which a program matches, one after 
 pub mod LinesLayout  -- where the next line with a match may be
 pub mod LinksLayout  -- how the states of a part lead on
 pub mod LogLayout  -- the log of the backward pass
-pub mod NamesLayout  -- what the states of a part or of patterns name, and which assertions they have
+pub mod StatesLayout  -- what the states of a part or of patterns name, and which assertions they have
 pub mod NeededLayout  -- two bytes that stand side by side in every match
 pub mod NextMatches  -- which match is next; `last` is where the last one ended, if there was one
 pub mod OnePattern  -- what a program of one pattern answers, by the pattern alone: where it goes first, where next, and that it goes nowhere
-pub mod OrderedLayout  -- what a state does at a position, and what a look at an ordered list of states finds
+pub mod OrderedLayout  -- what a state does at a position, and what a scan of an ordered list of states finds
 pub mod Parts  -- which pattern a part is, and which groups it has; and what a builder has of them
 pub mod PassTableLayout  -- the table of the rows of both passes
 pub mod PassesLayout  -- a look at an ordered list of states, and what a pass of such looks knows

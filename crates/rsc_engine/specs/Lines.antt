@@ -4,7 +4,7 @@ use Rattle.rsc_look.specs.Looks.{line_feed}
 use Rattle.rsc_search.specs.declared.anchored.Anchored.TheVariants.{No}
 use Rattle.rsc_search.specs.declared.span.Span.{Span}
 use Rattle.rsc_engine.specs.Searches.{Compiled, search_in}
-use Rattle.rsc_engine.specs.Preferred.{HasNone}
+use Rattle.rsc_engine.specs.Preferred.{HasNoFirstMatch}
 
 -- a line may begin at the position: at the haystack's start, or after a line feed
 abbrev pub BeginsLine : List ℕ → ℕ → Type 0
@@ -19,14 +19,14 @@ pub record IsLine (haystack : List ℕ) (line : Span) : Type 0 where
   pub inner : (i : ℕ) → line.start ≤ i → i < line.end → slice_index haystack i ≢ line_feed
   pub ends : line.end < length haystack → slice_index haystack line.end ≡ line_feed
 
--- of the lines that begin from the one position on and before the other none is such a one
+-- of the lines that begin from the one position on and before the other none is such a line
 abbrev pub NoLine : List ℕ → (Span → Type 0) → ℕ → ℕ → Type 0
 NoLine haystack IsSuch from to = (line : Span) → IsLine haystack line → from ≤ line.start → line.start < to → ¬ (IsSuch line)
 
 -- a search in the span has a match; assertions see beyond it
 abbrev pub HasMatchIn : {W : Type 0} → (W → ℕ → Bool) → Compiled W → List ℕ → Span → Type 0
 HasMatchIn chars program haystack span =
-    ¬ (HasNone (search_in chars program (record { haystack = haystack; span = span; anchored = No; earliest = false })))
+    ¬ (HasNoFirstMatch (search_in chars program (record { haystack = haystack; span = span; anchored = No; earliest = false })))
 
 -- what is left of an iteration over lines: the program, the haystack, and where the next line may begin
 pub record LinesLeft (W : Type 0) : Type 0 where

@@ -5,34 +5,35 @@ use Rattle.rsc_nfa.specs.declared.state.State.TheVariants.{Fork, Accept}
 use Rattle.rsc_nfa.specs.Steps.{IsStep}
 use Rattle.rsc_engine.specs.Patterns.{Pattern, Empty, Then, Either, Subject, Goes}
 use Rattle.rsc_engine.specs.EnclosesLayout.{Encloses}
-use Rattle.rsc_engine.specs.NamesLayout.{Names, asked_by}
+use Rattle.rsc_engine.specs.StatesLayout.{FitsAndAsks, asked_by}
 use Rattle.rsc_engine.specs.GroupNumbers.{count_groups, numbered}
 use Rattle.rsc_engine.specs.ByWaysLayout.{ByWays}
 use Rattle.rsc_engine.specs.TakesLayout.{TakesCourse}
 use Rattle.rsc_engine.specs.Sizes.{size_of}
 use Rattle.rsc_captures.specs.Groups.{GroupLists, all_groups}
 
--- a match that is looked for: in a text up to an end, of a pattern, to a position
+-- a match that is looked for: in a subject up to an end, of a pattern, to a position
 pub record Aim : Type 0 where
-  pub text : Subject
+  pub subject : Subject
   pub end : ℕ
   pub pattern : ℕ
   pub position : ℕ
 
 -- n steps lead from the state s at i to the match
-abbrev pub Ends : List State → Aim → ℕ → ℕ → ℕ → Type 0
-Ends states a zero s i = (slice_get states s ≡ Some (Accept a.pattern)) × (i ≡ a.position) × (i ≤ a.end)
-Ends states a (suc n) s i =
-    (i ≤ a.end) × (t : ℕ) × (k : ℕ) × IsStep states a.text.terminator a.text.word_chars a.text.haystack a.end (s, i) (t, k) × Ends states a n t k
+abbrev pub StepsLead : List State → Aim → ℕ → ℕ → ℕ → Type 0
+StepsLead states a zero s i = (slice_get states s ≡ Some (Accept a.pattern)) × (i ≡ a.position) × (i ≤ a.end)
+StepsLead states a (suc n) s i =
+    (i ≤ a.end) × (t : ℕ) × (k : ℕ) × IsStep states a.subject.terminator a.subject.word_chars a.subject.haystack a.end (s, i) (t, k)
+    × StepsLead states a n t k
 
 -- steps lead from the state s at i to the match
 pub record HasEnd (states : List State) (a : Aim) (s i : ℕ) : Type 0 where
   pub steps : ℕ
-  pub ends : Ends states a steps s i
+  pub ends : StepsLead states a steps s i
 
 -- from the state `first` steps lead to each match to which the pattern goes and then steps from the state `next` lead
 pub record Realizes (states : List State) (first next : ℕ) (p : Pattern) : Type 0 where
-  pub complete : (a : Aim) (i k : ℕ) → Goes a.text p i k → HasEnd states a next k → HasEnd states a first i
+  pub complete : (a : Aim) (i k : ℕ) → Goes a.subject p i k → HasEnd states a next k → HasEnd states a first i
 
 -- the states from n on are in the other list too
 abbrev pub IsIn : ℕ → List State → List State → Type 0
@@ -48,7 +49,7 @@ pub record Adds (old new : List State) (Holds : List State → Type 0) : Type 0 
 abbrev pub Builds : ℕ × ℕ → List State → List State → ℕ → ℕ → Pattern → Type 0
 Builds slots old new first next p =
     Adds old new (λ states. Realizes states first next p × Encloses slots.0 (length old) (length new) first next states
-    × Names slots.1 (asked_by p) (length old) (length new) states × ByWays states first next p
+    × FitsAndAsks slots.1 (asked_by p) (length old) (length new) states × ByWays states first next p
     × TakesCourse (length old) (length new) first next p states)
 
 -- between which slots the parts of a pattern record: after the end of its whole match, below the limit of all slots
@@ -61,7 +62,8 @@ BuildsPart slot_of slots left now old new first next p =
     (left ≡ now + count_groups p) × Builds slots old new first next (numbered slot_of now p) × (length new ≡ length old + size_of p)
 
 -- the same of what is made of copies of a part; only where there is one the groups from `now` on are known
-abbrev pub BuildsCopies : (ℕ → ℕ) → ℕ × ℕ → ℕ → ℕ → List State → List State → ℕ → ℕ → ℕ → (Pattern → Pattern) → Pattern → Type 0
+abbrev pub BuildsCopies : (ℕ → ℕ) → ℕ × ℕ → ℕ → ℕ → List State → List State → ℕ → ℕ → ℕ → (Pattern → Pattern)
+    → Pattern → Type 0
 BuildsCopies slot_of slots left now old new first next count made_of p =
     (0 < count → left ≡ now + count_groups p)
     × ((n : ℕ) → left ≡ n + count_groups p → Builds slots old new first next (made_of (numbered slot_of n p)))

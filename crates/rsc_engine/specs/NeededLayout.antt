@@ -34,6 +34,6 @@ PassMarksOn n states a b marks = (s : ℕ) (after : Bool) (state : State) → le
 -- each match has a byte of the second range directly after one of the first: without such bytes no marked state accepts
 pub record NeedsPair (m : Machine) (a b : ℕ × ℕ) : Type 0 where
   pub marks : List Bool
-  pub first : (after : Bool) → IsMarked marks (mark_of m.first after)
+  pub first : (after : Bool) → IsMarked marks (mark_of m.start_state after)
   pub passed : (s : ℕ) (after : Bool) (state : State) → slice_get m.states s ≡ Some state → IsMarked marks (mark_of s after)
       → PassesMarksOn a b marks after state

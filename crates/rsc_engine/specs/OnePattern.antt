@@ -15,7 +15,7 @@ use Rattle.rsc_engine.specs.GroupNumbers.{as_whole}
 use Rattle.rsc_engine.specs.PreferredWays.{IsPreferredWay}
 use Rattle.rsc_engine.specs.PatternMatches.{HoldRecords}
 
--- the text of a haystack, by a line terminator and word characters
+-- a haystack as a subject, by a line terminator and word characters
 abbrev pub subject_in : {W : Type 0} → (W → ℕ → Bool) → List ℕ → ℕ × W → Subject
 subject_in chars haystack matcher = record { haystack = haystack; terminator = matcher.0; word_chars = chars matcher.1 }
 
@@ -53,8 +53,8 @@ abbrev pub IsLeftOut : Bool → List ℕ → Option ℕ → ℕ → Type 0
 IsLeftOut utf8 haystack last at = (last ≡ Some at) ⊎ ((utf8 ≡ true) × (¬ (IsCharBoundary haystack at)))
 
 -- no match is taken at the position: the pattern goes nowhere from there up to the end, or its preferred way is empty and left out
-abbrev pub IsPassedOfOne : Subject → Pattern → Groups → Bool → ℕ → Option ℕ → ℕ → Type 0
-IsPassedOfOne x p groups utf8 end last at =
+abbrev pub IsLeftOutOfOne : Subject → Pattern → Groups → Bool → ℕ → Option ℕ → ℕ → Type 0
+IsLeftOutOfOne x p groups utf8 end last at =
     ((j : ℕ) → j ≤ end → ¬ (Goes x p at j)) ⊎ (StaysAt x p groups end at × IsLeftOut utf8 x.haystack last at)
 
 -- the next match may begin at the position: it's in the span, and if the search is anchored, at each earlier one the match would repeat the last one
@@ -68,9 +68,9 @@ pub record MayBeNextOfOne (x : Subject) (p : Pattern) (groups : Groups) (input :
 pub record IsNextOfOne (x : Subject) (p : Pattern) (groups : Groups) (utf8 : Bool) (input : InputParts) (last : Option ℕ) (span : Span) : Type 0 where
   pub begins : MayBeNextOfOne x p groups input last span.start
   pub taken : span.start ≡ span.end → ¬ (IsLeftOut utf8 x.haystack last span.start)
-  pub passed : (at : ℕ) → input.span.start ≤ at → at < span.start → IsPassedOfOne x p groups utf8 input.span.end last at
+  pub left_out : (at : ℕ) → input.span.start ≤ at → at < span.start → IsLeftOutOfOne x p groups utf8 input.span.end last at
 
--- each position at which the next match may begin is passed, if the pattern may match
+-- each position at which the next match may begin is left out, if the pattern may match
 abbrev pub IsOverOfOne : Subject → Pattern → Groups → Bool → InputParts → Option ℕ → Type 0
 IsOverOfOne x p groups utf8 input last = is_wanted (pattern_of_mode input.anchored) 0 ≡ true → (at : ℕ)
-    → MayBeNextOfOne x p groups input last at → IsPassedOfOne x p groups utf8 input.span.end last at
+    → MayBeNextOfOne x p groups input last at → IsLeftOutOfOne x p groups utf8 input.span.end last at

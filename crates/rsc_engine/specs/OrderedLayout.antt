@@ -1,28 +1,29 @@
--- What a state does at a position, and what a look at an ordered list of states finds.
+-- What a state does at a position, and what a scan of an ordered list of states finds.
 use Rattle.std.specs.Prelude.{◌≡◌, ℕ, ◌+◌, ◌<◌, Bool, true, false, List, [], slice_get, slice_index_or, Option, Some, None}
 use Rattle.rsc_nfa.specs.declared.state.State.TheVariants.{Fork, Accept}
 use Rattle.rsc_engine.specs.Searches.{Search}
 use Rattle.rsc_engine.specs.Runs.{Leads, accepts}
-use Rattle.rsc_engine.specs.declared.dfa.ordered.Way.{Way}
-use Rattle.rsc_engine.specs.declared.dfa.ordered.Way.TheVariants.{Stuck, One, Over, Two, Match}
+use Rattle.rsc_engine.specs.declared.dfa.ordered.Action.{Action}
+use Rattle.rsc_engine.specs.declared.dfa.ordered.Action.TheVariants.{Stuck, One, OverByte, Two, Match}
 use Rattle.rsc_engine.specs.Preferred.{IsLeftmostFirst}
 use Rattle.rsc_engine.specs.DecidesLayout.{last_of}
 use Rattle.rsc_engine.specs.PassesLayout.{IsNoFork, Scans}
 
 -- what the state does at the position
-abbrev pub IsWayOn : Search → ℕ → ℕ → Way → Type 0
-IsWayOn e i s Stuck = (accepts e (s, i) ≡ false) × ((q : ℕ × ℕ) → Leads e (s, i) q → ⊥)
-IsWayOn e i s (One t) = (accepts e (s, i) ≡ false) × IsNoFork e s × Leads e (s, i) (t, i) × ((q : ℕ × ℕ) → Leads e (s, i) q → (q.0 ≡ t) × (q.1 ≡ i))
-IsWayOn e i s (Over t) = (accepts e (s, i) ≡ false) × IsNoFork e s × Leads e (s, i) (t, i + 1)
+abbrev pub IsActionOf : Search → ℕ → ℕ → Action → Type 0
+IsActionOf e i s Stuck = (accepts e (s, i) ≡ false) × ((q : ℕ × ℕ) → Leads e (s, i) q → ⊥)
+IsActionOf e i s (One t) = (accepts e (s, i) ≡ false) × IsNoFork e s × Leads e (s, i) (t, i)
+    × ((q : ℕ × ℕ) → Leads e (s, i) q → (q.0 ≡ t) × (q.1 ≡ i))
+IsActionOf e i s (OverByte t) = (accepts e (s, i) ≡ false) × IsNoFork e s × Leads e (s, i) (t, i + 1)
     × ((q : ℕ × ℕ) → Leads e (s, i) q → (q.0 ≡ t) × (q.1 ≡ i + 1))
-IsWayOn e i s (Two a b) = slice_get e.states s ≡ Some (Fork a b)
-IsWayOn e i s (Match p) = (accepts e (s, i) ≡ true) × (slice_get e.states s ≡ Some (Accept p))
+IsActionOf e i s (Two a b) = slice_get e.states s ≡ Some (Fork a b)
+IsActionOf e i s (Match p) = (accepts e (s, i) ≡ true) × (slice_get e.states s ≡ Some (Accept p))
 
 -- the states to which it leads are there
-abbrev pub IsThere : ℕ → Way → Type 0
+abbrev pub IsThere : ℕ → Action → Type 0
 IsThere n Stuck = Unit {0}
 IsThere n (One t) = t < n
-IsThere n (Over t) = t < n
+IsThere n (OverByte t) = t < n
 IsThere n (Two a b) = (a < n) × (b < n)
 IsThere n (Match p) = Unit {0}
 
@@ -37,12 +38,12 @@ IsOfPattern e i (Some q) (Some p) = (slice_get e.states q.0 ≡ Some (Accept p))
 IsOfPattern e i None (Some p) = ⊥
 IsOfPattern e i (Some q) None = ⊥
 
--- a look at the list finds a match of the pattern, or none, and the next list
-pub record IsLooked (e : Search) (i : ℕ) (list : List ℕ) (pattern : Option ℕ) (next : List ℕ) : Type 0 where
+-- a scan of the list finds a match of the pattern, or none, and the next list
+pub record IsScanned (e : Search) (i : ℕ) (list : List ℕ) (pattern : Option ℕ) (next : List ℕ) : Type 0 where
   pub seen : ℕ → Bool
   pub none_seen : (s : ℕ) → seen s ≡ false
   pub found : Option (ℕ × ℕ)
-  pub looks : Scans e i seen list [] next found
+  pub scans : Scans e i seen list [] next found
   pub of_pattern : IsOfPattern e i found pattern
 
 -- the leftmost-first match is of the pattern and ends at the position

@@ -10,7 +10,7 @@ use Rattle.rsc_search.specs.declared.anchored.Anchored.{Anchored}
 use Rattle.rsc_engine.specs.declared.dfa.pass_table.PassRow.{PassRow}
 use Rattle.rsc_engine.specs.declared.dfa.beyond.BeyondStep.{BeyondStep}
 use Rattle.rsc_engine.specs.declared.dfa.entries.Lead.{Lead}
-use Rattle.rsc_engine.specs.declared.dfa.entries.Lead.TheVariants.{Unknown, To, Marked, Last}
+use Rattle.rsc_engine.specs.declared.dfa.entries.Lead.TheVariants.{Unknown, To, WithMatch}
 use Rattle.rsc_engine.specs.RowsLayout.{Machine, Alike, AreStates, IsPlainUnit, around, middle}
 use Rattle.rsc_engine.specs.ForwardLayout.{beside, IsAdvanced}
 use Rattle.rsc_engine.specs.BackwardLayout.{IsRetreated}
@@ -24,20 +24,18 @@ column classes (Some b) = slice_index classes b
 abbrev pub row_of : Lead → Option ℕ
 row_of Unknown = None
 row_of (To row) = Some row
-row_of (Marked row) = Some row
-row_of (Last row) = Some row
+row_of (WithMatch row) = Some row
 
--- the same, of an entry that says that the row isn't marked
+-- the same, of an entry that says that the row knows of no match
 abbrev pub plain_row_of : Lead → Option ℕ
 plain_row_of Unknown = None
 plain_row_of (To row) = Some row
-plain_row_of (Marked row) = None
-plain_row_of (Last row) = None
+plain_row_of (WithMatch row) = None
 
 -- the row knows of no match that ends before the byte read last, or in the backward pass begins after it
-abbrev pub IsUnmarked : Option PassRow → Type 0
-IsUnmarked None = Unit {0}
-IsUnmarked (Some row) = (row.found ≡ None) × (row.backward ≡ true → row.begins ≡ false)
+abbrev pub KnowsNoMatch : Option PassRow → Type 0
+KnowsNoMatch None = Unit {0}
+KnowsNoMatch (Some row) = (row.found ≡ None) × (row.backward ≡ true → row.begins ≡ false)
 
 -- the row is there, of that pass and with that list and status, of a byte of the class
 pub record IsPassRow (classes : List ℕ) (rows : List PassRow) (k : ℕ) (backward : Bool) (mode : Anchored) (begins : Bool) (found : Option ℕ)
@@ -139,7 +137,7 @@ pub record IsPassTable (m : Machine) (classes : List ℕ) (width most : ℕ) (ro
   pub each : (k : ℕ) (unit : Option ℕ) → IfSome unit (λ b. b < 256)
       → IfSome (row_of (slice_index_or leads (k * width + column classes unit) Unknown)) (IsPassTo m classes rows rows k unit)
   pub plain : (k : ℕ) (unit : Option ℕ) → IfSome unit (λ b. b < 256)
-      → IfSome (plain_row_of (slice_index_or leads (k * width + column classes unit) Unknown)) (λ next. IsUnmarked (slice_get rows next))
+      → IfSome (plain_row_of (slice_index_or leads (k * width + column classes unit) Unknown)) (λ next. KnowsNoMatch (slice_get rows next))
   pub steps : (i : ℕ) → IfSome (slice_index_or beyond i None) (IsBeyondStep m classes rows)
 
 -- each row is where it was

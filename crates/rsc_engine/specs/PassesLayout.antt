@@ -3,7 +3,7 @@ use Rattle.std.specs.Prelude.{◌≡◌, ℕ, ◌+◌, ◌<◌, ◌≤◌, Bool,
 use Rattle.rsc_nfa.specs.declared.state.State.TheVariants.{Fork}
 use Rattle.rsc_engine.specs.Searches.{Search}
 use Rattle.rsc_engine.specs.Runs.{Leads, IsPlace, accepts, HasNoMatch}
-use Rattle.rsc_engine.specs.Preferred.{HasNone}
+use Rattle.rsc_engine.specs.Preferred.{HasNoFirstMatch}
 use Rattle.rsc_engine.specs.RowsLayout.{AddsOne}
 use Rattle.rsc_engine.specs.DecidesLayout.{IsMore, unseen, Decides, IsLastPlace}
 
@@ -18,14 +18,18 @@ pub data Scans (e : Search) (i : ℕ) : (ℕ → Bool) → List ℕ → List ℕ
   done : (seen : ℕ → Bool) (next : List ℕ) → Scans e i seen [] next next None
   again : (seen : ℕ → Bool) (s : ℕ) (list next out : List ℕ) (found : Option (ℕ × ℕ)) → seen s ≡ true → Scans e i seen list next out found
       → Scans e i seen (s ∷ list) next out found
-  fork : (seen after : ℕ → Bool) (s a b : ℕ) (list next out : List ℕ) (found : Option (ℕ × ℕ)) → IsMore seen s after → seen s ≡ false → IsPlace e (s, i)
+  fork : (seen after : ℕ → Bool) (s a b : ℕ) (list next out : List ℕ) (found : Option (ℕ × ℕ)) → IsMore seen s after → seen s ≡ false
+      → IsPlace e (s, i)
       → slice_get e.states s ≡ Some (Fork a b) → Scans e i after (a ∷ b ∷ list) next out found → Scans e i seen (s ∷ list) next out found
-  single : (seen after : ℕ → Bool) (s t : ℕ) (list next out : List ℕ) (found : Option (ℕ × ℕ)) → IsMore seen s after → seen s ≡ false → IsPlace e (s, i)
+  single : (seen after : ℕ → Bool) (s t : ℕ) (list next out : List ℕ) (found : Option (ℕ × ℕ)) → IsMore seen s after → seen s ≡ false
+      → IsPlace e (s, i)
       → accepts e (s, i) ≡ false → IsNoFork e s → Leads e (s, i) (t, i) → ((q : ℕ × ℕ) → Leads e (s, i) q → q ≡ (t, i))
       → Scans e i after (t ∷ list) next out found → Scans e i seen (s ∷ list) next out found
   stuck : (seen after : ℕ → Bool) (s : ℕ) (list next out : List ℕ) (found : Option (ℕ × ℕ)) → IsMore seen s after
-      → accepts e (s, i) ≡ false → ((q : ℕ × ℕ) → Leads e (s, i) q → ⊥) → Scans e i after list next out found → Scans e i seen (s ∷ list) next out found
-  over : (seen after : ℕ → Bool) (s t : ℕ) (list next new out : List ℕ) (found : Option (ℕ × ℕ)) → IsMore seen s after → seen s ≡ false → IsPlace e (s, i)
+      → accepts e (s, i) ≡ false → ((q : ℕ × ℕ) → Leads e (s, i) q → ⊥) → Scans e i after list next out found
+      → Scans e i seen (s ∷ list) next out found
+  over : (seen after : ℕ → Bool) (s t : ℕ) (list next new out : List ℕ) (found : Option (ℕ × ℕ)) → IsMore seen s after → seen s ≡ false
+      → IsPlace e (s, i)
       → accepts e (s, i) ≡ false → IsNoFork e s → Leads e (s, i) (t, i + 1) → ((q : ℕ × ℕ) → Leads e (s, i) q → q ≡ (t, i + 1))
       → AddsOne next t new → Scans e i after list new out found → Scans e i seen (s ∷ list) next out found
   matched : (seen : ℕ → Bool) (s : ℕ) (list next : List ℕ) → seen s ≡ false → IsPlace e (s, i) → accepts e (s, i) ≡ true
@@ -53,7 +57,7 @@ Opens e (Closed last) out next = next ≡ out
 -- what an answer says: where the leftmost-first match ends, or that there is none
 abbrev pub IsFound : Search → Option (ℕ × ℕ) → Type 0
 IsFound e (Some q) = IsLastPlace e q
-IsFound e None = HasNone e
+IsFound e None = HasNoFirstMatch e
 
 -- what is so if no match is reached from the list
 abbrev pub IsLeftOver : Search → ℕ → Status → Type 0

@@ -5,7 +5,7 @@ use Rattle.rsc_nfa.specs.Steps.{is_between}
 use Rattle.rsc_nfa.specs.declared.state.State.{State}
 use Rattle.rsc_nfa.specs.declared.state.State.TheVariants.{ByteRange, Assert, Fork, Capture, Accept}
 use Rattle.rsc_engine.specs.Patterns.{Subject}
-use Rattle.rsc_engine.specs.Courses.{Stand, further, chosen, noted, IsNew}
+use Rattle.rsc_engine.specs.Courses.{Stand, further, chosen, noted, IsUnmade}
 
 -- after a state with the number f
 abbrev pub by_state : Option State → ℕ → Stand → Stand
@@ -18,7 +18,7 @@ by_state _ f s = s
 abbrev pub PathLeads : Option State → Subject → ℕ → ℕ → Stand → ℕ → Type 0
 PathLeads (Some (ByteRange a b next)) x end f s g = (s.at < end) × IsTrue (is_between a b (slice_get x.haystack s.at)) × (g ≡ next)
 PathLeads (Some (Assert look next)) x end f s g = Holds look x.terminator x.word_chars x.haystack s.at × (g ≡ next)
-PathLeads (Some (Fork a b)) x end f s g = IsNew f s × ((g ≡ a) ⊎ (g ≡ b))
+PathLeads (Some (Fork a b)) x end f s g = IsUnmade f s × ((g ≡ a) ⊎ (g ≡ b))
 PathLeads (Some (Capture slot next)) x end f s g = g ≡ next
 PathLeads _ x end f s g = ⊥
 

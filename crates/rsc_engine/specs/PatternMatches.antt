@@ -9,7 +9,7 @@ use Rattle.rsc_search.specs.Inputs.{InputParts}
 use Rattle.rsc_search.specs.declared.span.Span.{Span}
 use Rattle.rsc_search.specs.Matches.{Matched}
 use Rattle.rsc_engine.specs.Searches.{Search, Compiled, search_in}
-use Rattle.rsc_engine.specs.Preferred.{MayBegin, HasNone, IsFirstMatch}
+use Rattle.rsc_engine.specs.Preferred.{MayBegin, HasNoFirstMatch, IsFirstMatch}
 use Rattle.rsc_engine.specs.NextMatches.{IsNextMatch, IsOver}
 use Rattle.rsc_engine.specs.Patterns.{Pattern, IsMatchIn, subject_of}
 use Rattle.rsc_engine.specs.Ways.{last_in}
@@ -67,9 +67,9 @@ pub record PrefersThere (patterns : List Pattern) (lists : GroupLists) (e : Sear
   pub preferred : IsPreferredOf patterns lists e found records
   pub is_such : IsSuch found
 
--- a position is passed exactly if no pattern goes on from it, or the preferred match there is empty, and where the last one ended or within a character
-abbrev pub IsPassedOf : List Pattern → GroupLists → Search → Option ℕ → ℕ → Type 0
-IsPassedOf patterns lists e last at =
+-- a position is left out exactly if no pattern goes on from it, or the preferred match there is empty, and where the last one ended or within a character
+abbrev pub IsLeftOutOf : List Pattern → GroupLists → Search → Option ℕ → ℕ → Type 0
+IsLeftOutOf patterns lists e last at =
     NoneGoesOn patterns e at ⊎ (PrefersThere patterns lists e at (Repeats last) ⊎ PrefersThere patterns lists e at (Splits e))
 
 -- the next match may begin at the position: it's in the span, and if the search is anchored, at each earlier one the match would repeat the last one
@@ -78,28 +78,28 @@ pub record MayBeNextOf (patterns : List Pattern) (lists : GroupLists) (e : Searc
   pub end : at ≤ e.end
   pub anchored : ¬ (e.mode ≡ No) → (earlier : ℕ) → e.start ≤ earlier → earlier < at → PrefersThere patterns lists e earlier (Repeats last)
 
--- the match begins at an open position, it's the preferred one from there, no repeat and splits no character, and each earlier open position is passed
-pub record IsNextOfAll (patterns : List Pattern) (lists : GroupLists) (e : Search) (last : Option ℕ) (captures : Captured) (found : Matched) : Type 0 where
+-- the match begins where the next one may, it's the preferred one from there, repeats and splits nothing, and each earlier position at which it may is left out
+pub record IsNextOf (patterns : List Pattern) (lists : GroupLists) (e : Search) (last : Option ℕ) (captures : Captured) (found : Matched) : Type 0 where
   pub records : List (ℕ × ℕ)
   pub begins : MayBeNextOf patterns lists e last found.span.start
   pub preferred : IsPreferredOf patterns lists e found records
   pub no_repeat : ¬ (Repeats last found)
   pub splits_none : ¬ (Splits e found)
-  pub passed : (at : ℕ) → at < found.span.start → MayBeNextOf patterns lists e last at → IsPassedOf patterns lists e last at
+  pub left_out : (at : ℕ) → at < found.span.start → MayBeNextOf patterns lists e last at → IsLeftOutOf patterns lists e last at
   pub hold : HoldRecords captures found records
 
--- each open position is passed
+-- each position at which the next match may begin is left out
 abbrev pub IsOverOf : List Pattern → GroupLists → Search → Option ℕ → Type 0
-IsOverOf patterns lists e last = (at : ℕ) → MayBeNextOf patterns lists e last at → IsPassedOf patterns lists e last at
+IsOverOf patterns lists e last = (at : ℕ) → MayBeNextOf patterns lists e last at → IsLeftOutOf patterns lists e last at
 
 -- in every input, the first match and the next one of the program are those of the patterns
 pub record IsBuiltOf {W : Type 0} (chars : W → ℕ → Bool) (program : Compiled W) (patterns : List Pattern) : Type 0 where
   pub first : (input : InputParts) (captures : Captured) (found : Matched) → IsFirstMatch (search_in chars program input) captures found →
       IsFirstOf patterns program.automaton.groups (search_in chars program input) captures found
-  pub none : (input : InputParts) → HasNone (search_in chars program input) → HasNoneOf patterns (search_in chars program input)
+  pub none : (input : InputParts) → HasNoFirstMatch (search_in chars program input) → HasNoneOf patterns (search_in chars program input)
   pub next : (input : InputParts) (last : Option ℕ) (captures : Captured) (found : Matched) →
       IsNextMatch (search_in chars program input) last captures found →
-      IsNextOfAll patterns program.automaton.groups (search_in chars program input) last captures found
+      IsNextOf patterns program.automaton.groups (search_in chars program input) last captures found
   pub over : (input : InputParts) (last : Option ℕ) → IsOver (search_in chars program input) last →
       IsOverOf patterns program.automaton.groups (search_in chars program input) last
 

@@ -2,7 +2,7 @@
 use Rattle.std.specs.Prelude.{◌≡◌, ℕ, zero, suc, ◌-◌, Bool, true, false, List, [], ◌∷◌, ◌++◌, Some, None}
 use Rattle.std.specs.List.{AllPairs}
 use Rattle.rsc_engine.specs.Patterns.{Pattern, Empty, Never, Class, Literal, Assertion, Then, Either, Repeat, Group, Subject, may_be_empty}
-use Rattle.rsc_engine.specs.Courses.{Course, Skip, Dead, Byte, Here, After, Choose, Turn, Again, Within, Stand, begin, IsFirstNew}
+use Rattle.rsc_engine.specs.Courses.{Course, Skip, Dead, Byte, Here, After, Choose, Turn, Again, Within, Stand, fresh, IsFirstOnce}
 
 -- the part or nothing: greedy, the part is preferred
 abbrev pub may_come : Bool → ℕ → Course → Course
@@ -26,9 +26,10 @@ AreCopies Is zero c = c ≡ Skip
 AreCopies Is (suc n) c = (d : Course) × (e : Course) × (c ≡ After d e) × Is d × AreCopies Is n e
 
 -- at most n copies, each after a choice of its own
-abbrev pub AreAtMost : (Course → Type 0) → Bool → ℕ → Course → Type 0
-AreAtMost Is greedy zero c = c ≡ Skip
-AreAtMost Is greedy (suc n) c = (w : ℕ) × (d : Course) × (e : Course) × (c ≡ may_come greedy w (After d e)) × Is d × AreAtMost Is greedy n e
+abbrev pub AreOptionalCopies : (Course → Type 0) → Bool → ℕ → Course → Type 0
+AreOptionalCopies Is greedy zero c = c ≡ Skip
+AreOptionalCopies Is greedy (suc n) c = (w : ℕ) × (d : Course) × (e : Course) × (c ≡ may_come greedy w (After d e)) × Is d
+    × AreOptionalCopies Is greedy n e
 
 -- once or more
 abbrev pub IsAgain : (Course → Type 0) → Bool → Course → Type 0
@@ -49,12 +50,12 @@ IsCourseOf (Assertion look) c = c ≡ Here look
 IsCourseOf (Then a b) c = (d : Course) × (e : Course) × (c ≡ After d e) × IsCourseOf a d × IsCourseOf b e
 IsCourseOf (Either a b) c = (w : ℕ) × (d : Course) × (e : Course) × (c ≡ Choose w d e) × IsCourseOf a d × IsCourseOf b e
 IsCourseOf (Repeat zero None greedy a) c = IsStar (IsCourseOf a) (may_be_empty a) greedy c
-IsCourseOf (Repeat zero (Some max) greedy a) c = AreAtMost (IsCourseOf a) greedy max c
+IsCourseOf (Repeat zero (Some max) greedy a) c = AreOptionalCopies (IsCourseOf a) greedy max c
 IsCourseOf (Repeat (suc zero) None greedy a) c = IsAgain (IsCourseOf a) greedy c
 IsCourseOf (Repeat (suc (suc min)) None greedy a) c =
     (d : Course) × (e : Course) × (c ≡ After d e) × AreCopies (IsCourseOf a) (suc min) d × IsAgain (IsCourseOf a) greedy e
 IsCourseOf (Repeat (suc min) (Some max) greedy a) c =
-    (d : Course) × (e : Course) × (c ≡ After d e) × AreCopies (IsCourseOf a) (suc min) d × AreAtMost (IsCourseOf a) greedy (max - suc min) e
+    (d : Course) × (e : Course) × (c ≡ After d e) × AreCopies (IsCourseOf a) (suc min) d × AreOptionalCopies (IsCourseOf a) greedy (max - suc min) e
 IsCourseOf (Group slot a) c = (d : Course) × (c ≡ Within slot d) × IsCourseOf a d
 
 -- the numbers of its choices
@@ -78,4 +79,4 @@ pub record HasCourse (p : Pattern) : Type 0 where
 -- the pattern's preferred way from i to a wanted position leads to j, and makes these records; the last one is first
 abbrev pub IsPreferredWay : Subject → Pattern → (ℕ → Type 0) → ℕ → ℕ → List (ℕ × ℕ) → Type 0
 IsPreferredWay x p Wanted i j records =
-    (its : HasCourse p) × (last : Stand) × IsFirstNew x its.course (λ s. Wanted s.at) (begin i) last × (last.at ≡ j) × (last.records ≡ records)
+    (its : HasCourse p) × (last : Stand) × IsFirstOnce x its.course (λ s. Wanted s.at) (fresh i) last × (last.at ≡ j) × (last.records ≡ records)

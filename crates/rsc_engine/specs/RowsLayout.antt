@@ -5,7 +5,7 @@ use Rattle.rsc_look.specs.Keeping.{AgreesWithAscii}
 use Rattle.rsc_captures.specs.Groups.{GroupLists}
 use Rattle.rsc_nfa.specs.declared.state.State.{State}
 use Rattle.rsc_nfa.specs.Classes.{KeepsRuns, has_unicode}
-use Rattle.rsc_nfa.specs.Faults.{AreFaultless}
+use Rattle.rsc_nfa.specs.StateFaults.{AreFaultless}
 use Rattle.rsc_nfa.specs.Steps.{IsStep}
 use Rattle.rsc_alphabet.specs.Partitions.{LastClassIsGreatest}
 use Rattle.rsc_alphabet.specs.Iterators.{symbol_count}
@@ -16,7 +16,7 @@ pub record Machine : Type 0 where
   pub states : List State
   pub terminator : ℕ
   pub word_chars : ℕ → Bool
-  pub first : ℕ
+  pub start_state : ℕ
   pub utf8 : Bool
 
 abbrev pub machine : {W : Type 0} → (W → ℕ → Bool) → Compiled W → Machine
@@ -24,12 +24,12 @@ machine chars p = record {
   states = p.automaton.states;
   terminator = p.automaton.matcher.0;
   word_chars = chars p.automaton.matcher.1;
-  first = p.start;
+  start_state = p.start;
   utf8 = p.utf8;
 }
 
 abbrev pub machine_of : Search → Machine
-machine_of e = record { states = e.states; terminator = e.terminator; word_chars = e.word_chars; first = e.start_state; utf8 = e.utf8 }
+machine_of e = record { states = e.states; terminator = e.terminator; word_chars = e.word_chars; start_state = e.start_state; utf8 = e.utf8 }
 
 -- the byte before a position and the byte after it as a haystack, and the position in it
 abbrev pub around : Option ℕ → Option ℕ → List ℕ
@@ -85,7 +85,7 @@ IsPlainUnit m unit = has_unicode m.states ≡ true → IfSome unit (λ b. b < 12
 pub record IsPlan (m : Machine) (classes : List ℕ) (width : ℕ) (unicode : Bool) : Type 0 where
   pub groups : GroupLists
   pub faultless : AreFaultless groups m.states
-  pub there : m.first < length m.states
+  pub there : m.start_state < length m.states
   pub looks : unicode ≡ has_unicode m.states
   pub keeps : KeepsRuns classes m.states m.terminator m.word_chars
   pub agreed : AgreesWithAscii m.word_chars

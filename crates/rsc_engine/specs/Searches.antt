@@ -1,25 +1,15 @@
 -- A program, and what a search is over.
-use Rattle.std.specs.Prelude.{ℕ, ◌*◌, ◌<◌, Bool, List, length}
-use Rattle.rsc_captures.specs.Groups.{GroupLists, all_groups}
+use Rattle.std.specs.Prelude.{ℕ, Bool, List}
 use Rattle.rsc_search.specs.Inputs.{InputParts}
 use Rattle.rsc_search.specs.declared.anchored.Anchored.{Anchored}
 use Rattle.rsc_nfa.specs.Automata.{Automaton}
 use Rattle.rsc_nfa.specs.declared.state.State.{State}
-use Rattle.rsc_nfa.specs.declared.state.State.TheVariants.{ByteRange, Assert, Fork, Capture, Accept}
 
 -- an automaton, the state at which each match begins, and whether haystacks are text, so that an iteration leaves out empty matches within a character
 pub record Compiled (W : Type 0) : Type 0 where
   pub automaton : Automaton W
   pub start : ℕ
   pub utf8 : Bool
-
--- what a state names is there: n states, and the slots and patterns of the groups
-abbrev pub IsStateOf : GroupLists → ℕ → State → Type 0
-IsStateOf groups n (ByteRange a b next) = next < n
-IsStateOf groups n (Assert l next) = next < n
-IsStateOf groups n (Fork a b) = (a < n) × (b < n)
-IsStateOf groups n (Capture slot next) = (next < n) × (slot < 2 * all_groups groups)
-IsStateOf groups n (Accept p) = p < length groups
 
 -- what a search is over: of the program the states, the line terminator, the word characters, the state at which each match begins, and whether
 -- haystacks are text; of the input the haystack, the span that is searched, and where a match may begin, or one pattern alone

@@ -13,7 +13,7 @@ StepsBefore states p (q ∷ one) (r ∷ other) =
     ((a : ℕ) × (b : ℕ) × (slice_get states p.0 ≡ Some (Fork a b)) × (q.0 ≡ a) × (r.0 ≢ a)) ⊎ ((q ≡ r) × StepsBefore states q one other)
 
 -- steps up to an end lead from a place to a state that accepts the pattern m
-pub record IsWay (states : List State) (x : Subject) (end m : ℕ) (p : ℕ × ℕ) (rest : List (ℕ × ℕ)) : Type 0 where
+pub record AreStepsTo (states : List State) (x : Subject) (end m : ℕ) (p : ℕ × ℕ) (rest : List (ℕ × ℕ)) : Type 0 where
   pub within : p.1 ≤ end
   pub steps : AreSteps states x end p rest
   pub accepts : slice_get states (last_place p rest).0 ≡ Some (Accept m)

@@ -76,7 +76,7 @@ impl<'n> Builder<'n> {
     }
 
     /// Sets how many states a program may have. `build` answers `TooLarge` for patterns with more, before it makes a state: so a count of repetitions from
-    /// outside makes no more than these. [`Program::len`] says how many a program has. No program has more than `StateID::LIMIT` states, 2,147,483,647,
+    /// outside makes no more than these. [`Program::state_len`] says how many a program has. No program has more than `StateID::LIMIT` states, 2,147,483,647,
     /// whatever `most` is; this is the limit of a new builder.
     ///
     /// # Examples
@@ -91,12 +91,12 @@ impl<'n> Builder<'n> {
     /// let whole = builder.repeat(builder.range(b'a', b'a'), 1000, Some(1000))?;
     /// builder.limit_states(1003);
     /// let program = builder.build(AsciiWord, true, whole)?;
-    /// assert!(rt; program.len() == 1003);
+    /// assert!(rt; program.state_len() == 1003);
     /// ```
     pub fn limit_states(&mut self, most: usize)
-        ensures limit { limit_of self.new ≡ min most most_states }
-        ensures patterns { patterns_of self.new ≡ patterns_of self.old }
-        ensures groups { lists_of self.new ≡ lists_of self.old }
+        ensures value { limit_of self.new ≡ min most most_states }
+        ensures kept_patterns { patterns_of self.new ≡ patterns_of self.old }
+        ensures kept_groups { lists_of self.new ≡ lists_of self.old }
     {
         self.limit = most;
     }
@@ -124,7 +124,7 @@ impl<'n> Builder<'n> {
         Ok(self.leaf(Tree::Class(ranges), false))
     }
 
-    /// A part that matches exactly these bytes. A text's are `text.as_bytes()`.
+    /// A part that matches exactly these bytes. For text: `text.as_bytes()`.
     ///
     /// # Errors
     ///
@@ -284,14 +284,14 @@ impl<'n> Builder<'n> {
         })
     }
 
-    /// Finishes a pattern. Of two that match from a position the earlier is preferred.
-    pub fn pattern(&mut self, whole: Part<'n>) -> Result<(), Error>
-        ensures added { OnOk result (patterns_of self.new ≡ patterns_of self.old ++ pattern_of whole.entry ∷ []) }
+    /// Adds a pattern. Of two that match from a position the earlier is preferred.
+    pub fn add_pattern(&mut self, whole: Part<'n>) -> Result<(), Error>
+        ensures patterns { OnOk result (patterns_of self.new ≡ patterns_of self.old ++ pattern_of whole.entry ∷ []) }
         ensures groups { OnOk result (lists_of self.new ≡ lists_of self.old ++ groups_of_pattern whole.entry ∷ []) }
         ensures refused { IfErr result (λ e. e ≡ OutOfMemory) }
-        ensures kept { OnErr result (patterns_of self.new ≡ patterns_of self.old) }
-        ensures groups_kept { OnErr result (lists_of self.new ≡ lists_of self.old) }
-        ensures limit { limit_of self.new ≡ limit_of self.old }
+        ensures kept_patterns { OnErr result (patterns_of self.new ≡ patterns_of self.old) }
+        ensures kept_groups { OnErr result (lists_of self.new ≡ lists_of self.old) }
+        ensures kept_limit { limit_of self.new ≡ limit_of self.old }
     {
         self.patterns.push(whole)?;
         Ok(())

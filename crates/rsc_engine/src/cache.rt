@@ -2,10 +2,10 @@
 ghost use Rattle.std.specs.Prelude.{◌≡◌, IfOk, IfErr, IfSome, IfNone, OnErr, None, length};
 ghost use Rattle.rsc_engine.specs.declared.error.Error.TheVariants.{OutOfMemory};
 ghost use Rattle.rsc_engine.specs.Searches.{search_in};
-ghost use Rattle.rsc_engine.specs.Preferred.{HasNone, IsFirstMatch, IsCleared, IsInSpan};
+ghost use Rattle.rsc_engine.specs.Preferred.{HasNoFirstMatch, IsFirstMatch, IsCleared, IsInSpan};
 
 use crate::dfa::MOST_ROWS;
-use crate::{AsciiWordClass, Dfa, Error, Matches, Program};
+use crate::{AsciiCompatible, Dfa, Error, Matches, Program};
 use rsc_captures::Captures;
 use rsc_look::WordClass;
 use rsc_search::{Input, Match};
@@ -46,7 +46,7 @@ impl<'p, W: WordClass> Model for Cache<'p, W> {
     ghost invariant = { λ c. c.dfa ≡ c.program.now };
 }
 
-impl<'p, W: WordClass + AsciiWordClass> Cache<'p, W> {
+impl<'p, W: WordClass + AsciiCompatible> Cache<'p, W> {
     /// An empty cache for searches by the program.
     ///
     /// # Errors
@@ -67,7 +67,7 @@ impl<'p, W: WordClass + AsciiWordClass> Cache<'p, W> {
     ///
     /// # Errors
     ///
-    /// Out of memory. The next search is answered all the same.
+    /// Out of memory. Later searches still work.
     pub fn find(
         &mut self,
         input: &Input<'_>,
@@ -75,11 +75,11 @@ impl<'p, W: WordClass + AsciiWordClass> Cache<'p, W> {
     ) -> Result<Option<Match>, Error>
         ensures kept { self.new ≡ self.old }
         ensures found { IfOk result (λ found. IfSome found (IsFirstMatch (search_in W.word_chars self.old input.now) captures.new)) }
-        ensures none { IfOk result (λ found. IfNone found (HasNone (search_in W.word_chars self.old input.now))) }
-        ensures groups { captures.new.groups ≡ captures.old.groups }
-        ensures slots { length captures.new.offsets ≡ length captures.old.offsets }
-        ensures unset { IfOk result (λ found. IfNone found (IsCleared captures.old captures.new)) }
-        ensures failed { OnErr result (IsCleared captures.old captures.new) }
+        ensures none { IfOk result (λ found. IfNone found (HasNoFirstMatch (search_in W.word_chars self.old input.now))) }
+        ensures kept_groups { captures.new.groups ≡ captures.old.groups }
+        ensures kept_slots { length captures.new.offsets ≡ length captures.old.offsets }
+        ensures cleared { IfOk result (λ found. IfNone found (IsCleared captures.old captures.new)) }
+        ensures cleared_by_error { OnErr result (IsCleared captures.old captures.new) }
         ensures within { IfOk result (λ found. IfSome found (IsInSpan input.now)) }
         ensures refused { IfErr result (λ e. e ≡ OutOfMemory) }
     {
@@ -111,6 +111,6 @@ impl<'p, W: WordClass + AsciiWordClass> Cache<'p, W> {
         ensures made { IfOk result (λ m. m ≡ record { program = self.entry; input = input.entry; last = None }) }
         ensures refused { IfErr result (λ e. e ≡ OutOfMemory) }
     {
-        Ok(Matches::over(self, input))
+        Ok(Matches::of_cache(self, input))
     }
 }

@@ -11,7 +11,7 @@ ghost use Rattle.rsc_search.specs.declared.anchored.Anchored.TheVariants.{No};
 ghost use Rattle.rsc_engine.specs.declared.error.Error.TheVariants.{OutOfMemory};
 ghost use Rattle.rsc_engine.specs.Searches.{search_in};
 ghost use Rattle.rsc_engine.specs.Runs.{HasNoMatch};
-ghost use Rattle.rsc_engine.specs.Preferred.{HasNone, IsFirstMatch, IsCleared, IsInSpan};
+ghost use Rattle.rsc_engine.specs.Preferred.{HasNoFirstMatch, IsFirstMatch, IsCleared, IsInSpan};
 ghost use Rattle.rsc_engine.specs.Ends.{IsEarliestEnd, IsLeftmostEnd};
 ghost use Rattle.rsc_engine.specs.RowsLayout.{machine, IsPlan};
 ghost use Rattle.rsc_engine.specs.PassTableLayout.{IsPassTable};
@@ -38,7 +38,7 @@ mod quiet;
 mod retreat;
 mod whole;
 
-use crate::{AsciiWordClass, Error, Program};
+use crate::{AsciiCompatible, Error, Program};
 pub(crate) use ahead::Ahead;
 use along::{Walk, match_along};
 use backward::part_from;
@@ -54,7 +54,7 @@ use rsc_primitives::PatternID;
 use rsc_search::{Input, Match};
 use std::alloc::Global;
 use std::marker::Model;
-use whole::is_whole;
+use whole::records_only_ends;
 
 // A span of fewer bytes is a short one.
 const LONG: usize = 4096;
@@ -95,7 +95,7 @@ pub struct Dfa<'p, W: WordClass> {
     stopped: usize,
     // What each match has, and with which bytes it begins, if that is known, and whether it was looked for.
     needed: Option<Needed>,
-    first: Option<FirstBytes>,
+    first_bytes: Option<FirstBytes>,
     is_sought: bool,
 }
 
@@ -112,7 +112,7 @@ impl<W: WordClass> Drop for Dfa<'_, W> {
             loud: _,
             stopped: _,
             needed: _,
-            first: _,
+            first_bytes: _,
             is_sought: _,
         } = self;
     }
@@ -137,15 +137,16 @@ impl<'p, W: WordClass> Model for Dfa<'p, W> {
         × AreQuiet d.plan.program.now.automaton.states d.loud.items
         × IfSome d.needed (λ n. NeedsPair (machine W.word_chars d.plan.program.now) n.first n.second)
         × (d.plan.most_rows ≡ d.most_rows)
-        × IfSome d.first (λ f. HasFirst (machine W.word_chars d.plan.program.now) f.range) };
+        × IfSome d.first_bytes (λ f. HasFirst (machine W.word_chars d.plan.program.now) f.range) };
 }
 
-impl<'p, W: WordClass + AsciiWordClass> Dfa<'p, W> {
+impl<'p, W: WordClass + AsciiCompatible> Dfa<'p, W> {
     /// The DFA of a program, with no rows. It keeps at most that many rows, and one at least: when it has as many and a search needs
     /// another, it drops them all and goes on from the new one.
     pub fn new(alloc: Global, program: &'p Program<W>, most_rows: usize) -> Dfa<'p, W>
         ensures { result ≡ program.now }
     {
+        // No wrong body: the clause is of the program, and no other one is at hand.
         Dfa {
             alloc,
             plan: Plan::new(program, most_rows),
@@ -156,31 +157,31 @@ impl<'p, W: WordClass + AsciiWordClass> Dfa<'p, W> {
             loud: Vec::new(alloc),
             stopped: 0,
             needed: None,
-            first: None,
+            first_bytes: None,
             is_sought: false,
         }
     }
 
     // Looks for what each match has, and with what it begins, once.
-    fn seek(&mut self)
+    fn find_needed(&mut self)
         ensures { self.new ≡ self.old }
     {
         if !self.is_sought {
             self.is_sought = true;
             self.needed = Needed::of(self.plan.program);
-            self.first = FirstBytes::of(self.plan.program);
+            self.first_bytes = FirstBytes::of(self.plan.program);
         }
     }
 
     // Whether the input lacks what each match has. Only a long span is looked through.
     fn lacks_needed(&mut self, input: &Input<'_>) -> bool
         ensures kept { self.new ≡ self.old }
-        ensures none { result ≡ true → HasNone (search_in W.word_chars self.old input.now) }
+        ensures none { result ≡ true → HasNoFirstMatch (search_in W.word_chars self.old input.now) }
     {
         if !is_long(input) {
             return false;
         }
-        self.seek();
+        self.find_needed();
         let Some(needed) = self.needed else {
             return false;
         };
@@ -188,13 +189,13 @@ impl<'p, W: WordClass + AsciiWordClass> Dfa<'p, W> {
     }
 
     // Looks for the loud states, once, if the captures are for more than the ends of matches.
-    fn listen(&mut self, captures: &Captures) -> Result<(), Error>
+    fn find_loud_states(&mut self, captures: &Captures) -> Result<(), Error>
         requires { length self.old.automaton.states ≤ max_index }
         ensures kept { self.new ≡ self.old }
         ensures refused { IfErr result (λ e. e ≡ OutOfMemory) }
     {
         let program = self.plan.program;
-        if self.loud.len() == program.len() || is_whole(program, captures) {
+        if self.loud.len() == program.state_len() || records_only_ends(program, captures) {
             return Ok(());
         }
         self.loud = loud_states(self.alloc, program)?;
@@ -205,7 +206,7 @@ impl<'p, W: WordClass + AsciiWordClass> Dfa<'p, W> {
     ///
     /// # Errors
     ///
-    /// Out of memory. The next search is answered all the same.
+    /// Out of memory. Later searches still work.
     ///
     /// # Examples
     ///
@@ -213,7 +214,7 @@ impl<'p, W: WordClass + AsciiWordClass> Dfa<'p, W> {
     /// // [a-z]+, and \b, which looks at characters.
     /// let mut builder = Builder::new(rt.alloc());
     /// let letters = builder.plus(builder.range(b'a', b'z'))?;
-    /// builder.pattern(letters)?;
+    /// builder.add_pattern(letters)?;
     /// let boundary = builder.assertion(Look::WordUnicode);
     /// let program = builder.build(UnicodeWord, true, boundary)?;
     /// let mut dfa = Dfa::new(rt.alloc(), &program, 1000);
@@ -224,7 +225,7 @@ impl<'p, W: WordClass + AsciiWordClass> Dfa<'p, W> {
     pub fn earliest_end(&mut self, input: &Input<'_>) -> Result<Option<usize>, Error>
         ensures kept { self.new ≡ self.old }
         ensures found { IfOk result (λ found. IfSome found (IsEarliestEnd (search_in W.word_chars self.old input.now))) }
-        ensures none { IfOk result (λ found. IfNone found (HasNone (search_in W.word_chars self.old input.now))) }
+        ensures none { IfOk result (λ found. IfNone found (HasNoFirstMatch (search_in W.word_chars self.old input.now))) }
         ensures refused { IfErr result (λ e. e ≡ OutOfMemory) }
     {
         match self.end_of(input, true)? {
@@ -240,8 +241,8 @@ impl<'p, W: WordClass + AsciiWordClass> Dfa<'p, W> {
     /// Out of memory.
     pub fn is_match(&mut self, input: &Input<'_>) -> Result<bool, Error>
         ensures kept { self.new ≡ self.old }
-        ensures found { IfOk result (λ found. found ≡ true → ¬ (HasNone (search_in W.word_chars self.old input.now))) }
-        ensures none { IfOk result (λ found. found ≡ false → HasNone (search_in W.word_chars self.old input.now)) }
+        ensures found { IfOk result (λ found. found ≡ true → ¬ (HasNoFirstMatch (search_in W.word_chars self.old input.now))) }
+        ensures none { IfOk result (λ found. found ≡ false → HasNoFirstMatch (search_in W.word_chars self.old input.now)) }
         ensures refused { IfErr result (λ e. e ≡ OutOfMemory) }
     {
         match self.earliest_end(input)? {
@@ -263,11 +264,11 @@ impl<'p, W: WordClass + AsciiWordClass> Dfa<'p, W> {
     ) -> Result<Option<Match>, Error>
         ensures kept { self.new ≡ self.old }
         ensures found { IfOk result (λ found. IfSome found (IsFirstMatch (search_in W.word_chars self.old input.now) captures.new)) }
-        ensures none { IfOk result (λ found. IfNone found (HasNone (search_in W.word_chars self.old input.now))) }
-        ensures groups { captures.new.groups ≡ captures.old.groups }
-        ensures slots { length captures.new.offsets ≡ length captures.old.offsets }
-        ensures unset { IfOk result (λ found. IfNone found (IsCleared captures.old captures.new)) }
-        ensures failed { OnErr result (IsCleared captures.old captures.new) }
+        ensures none { IfOk result (λ found. IfNone found (HasNoFirstMatch (search_in W.word_chars self.old input.now))) }
+        ensures kept_groups { captures.new.groups ≡ captures.old.groups }
+        ensures kept_slots { length captures.new.offsets ≡ length captures.old.offsets }
+        ensures cleared { IfOk result (λ found. IfNone found (IsCleared captures.old captures.new)) }
+        ensures cleared_by_error { OnErr result (IsCleared captures.old captures.new) }
         ensures within { IfOk result (λ found. IfSome found (IsInSpan input.now)) }
         ensures refused { IfErr result (λ e. e ≡ OutOfMemory) }
     {
@@ -275,11 +276,11 @@ impl<'p, W: WordClass + AsciiWordClass> Dfa<'p, W> {
         let Some(last) = self.end_of(input, false)? else {
             return Ok(None);
         };
-        if self.plan.program.len() > MOST_NUMBERED {
+        if self.plan.program.state_len() > MOST_NUMBERED {
             // Only states that have numbers are gone back through.
             return Err(Error::OutOfMemory);
         }
-        self.listen(captures)?;
+        self.find_loud_states(captures)?;
         // No row is dropped that the log names.
         self.plan.most_rows = usize::MAX;
         let found = match_along(
@@ -307,7 +308,7 @@ impl<'p, W: WordClass + AsciiWordClass> Dfa<'p, W> {
         ensures kept { self.new ≡ self.old }
         ensures some { earliest ≡ false → IfOk result (λ found. IfSome found (λ f. IsEndOf (search_in W.word_chars self.old input.now) f.0 f.1)) }
         ensures earliest { earliest ≡ true → IfOk result (λ found. IfSome found (λ f. IsEarliestEnd (search_in W.word_chars self.old input.now) f.1)) }
-        ensures none { IfOk result (λ found. IfNone found (HasNone (search_in W.word_chars self.old input.now))) }
+        ensures none { IfOk result (λ found. IfNone found (HasNoFirstMatch (search_in W.word_chars self.old input.now))) }
         ensures refused { IfErr result (λ e. e ≡ OutOfMemory) }
     {
         if self.lacks_needed(input) {
@@ -331,7 +332,7 @@ impl<'p, W: WordClass + AsciiWordClass> Dfa<'p, W> {
         if start > end || input.get_anchored().is_anchored() {
             return start;
         }
-        match self.first {
+        match self.first_bytes {
             None => start,
             Some(first) => first.next_in(input.haystack(), start, end),
         }
@@ -350,7 +351,7 @@ impl<'p, W: WordClass + AsciiWordClass> Dfa<'p, W> {
     pub fn leftmost_end(&mut self, input: &Input<'_>) -> Result<Option<usize>, Error>
         ensures kept { self.new ≡ self.old }
         ensures found { IfOk result (λ found. IfSome found (IsLeftmostEnd (search_in W.word_chars self.old input.now))) }
-        ensures none { IfOk result (λ found. IfNone found (HasNone (search_in W.word_chars self.old input.now))) }
+        ensures none { IfOk result (λ found. IfNone found (HasNoFirstMatch (search_in W.word_chars self.old input.now))) }
         ensures refused { IfErr result (λ e. e ≡ OutOfMemory) }
     {
         match self.end_of(input, false)? {

@@ -38,7 +38,7 @@ impl fmt::Display for Error {
     fn fmt<W: fmt::Write>(&self, f: &mut fmt::Formatter<W>) -> fmt::Result {
         match self {
             Error::OutOfMemory => write!(f, "out of memory"),
-            Error::RepeatedName => write!(f, "a group name twice"),
+            Error::RepeatedName => write!(f, "repeated group name"),
             Error::TooLarge => write!(f, "too large"),
         }
     }

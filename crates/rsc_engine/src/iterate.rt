@@ -5,12 +5,12 @@ ghost use Rattle.rsc_search.specs.declared.anchored.Anchored.TheVariants.{No};
 ghost use Rattle.rsc_primitives.specs.Decoding.{IsCharBoundary};
 ghost use Rattle.rsc_engine.specs.declared.error.Error.TheVariants.{OutOfMemory};
 ghost use Rattle.rsc_engine.specs.Searches.{search_in};
-ghost use Rattle.rsc_engine.specs.Preferred.{IsFirstMatch, HasNone, IsCleared, IsInSpan};
+ghost use Rattle.rsc_engine.specs.Preferred.{IsFirstMatch, HasNoFirstMatch, IsCleared, IsInSpan};
 ghost use Rattle.rsc_engine.specs.NextMatches.{IsOver, IsNextMatch, from_start};
 ghost use Rattle.rsc_engine.specs.AheadLayout.{IsRestOf};
 
 use crate::dfa::Ahead;
-use crate::{AsciiWordClass, Cache, Dfa, Error, Program};
+use crate::{AsciiCompatible, Cache, Dfa, Error, Program};
 use rsc_captures::Captures;
 use rsc_look::WordClass;
 use rsc_search::{Input, Match};
@@ -44,25 +44,25 @@ const SPARE_FOR_A_BYTE: usize = 4;
 /// assert!(rt; matches.next(&mut captures)?.is_none());
 /// ```
 pub struct Matches<'p, 'h, W: WordClass> {
-    rest: Rest<'p, 'h, W>,
+    iteration: Iteration<'p, 'h, W>,
 }
 
 // Written out, so that a caller's proof has one step where they are dropped.
 impl<W: WordClass> Drop for Matches<'_, '_, W> {
     fn drop(self) {
-        let Matches { rest: _ } = self;
+        let Matches { iteration: _ } = self;
     }
 }
 
 impl<'p, 'h, W: WordClass> Model for Matches<'p, 'h, W> {
-    ghost use Rattle.rsc_engine.specs.NextMatches.{Left};
+    ghost use Rattle.rsc_engine.specs.NextMatches.{MatchesLeft};
 
-    ghost Value = { Left W };
+    ghost Value = { MatchesLeft W };
 
-    ghost view = { λ m. record { program = m.rest.program.now; input = m.rest.input; last = m.rest.last_end } };
+    ghost view = { λ m. record { program = m.iteration.program.now; input = m.iteration.input; last = m.iteration.last_end } };
 }
 
-impl<'p, 'h, W: WordClass + AsciiWordClass> Matches<'p, 'h, W> {
+impl<'p, 'h, W: WordClass + AsciiCompatible> Matches<'p, 'h, W> {
     /// All matches in an input's span.
     ///
     /// # Errors
@@ -80,7 +80,7 @@ impl<'p, 'h, W: WordClass + AsciiWordClass> Matches<'p, 'h, W> {
     }
 
     // The same over a cache.
-    pub(crate) fn over(cache: Cache<'p, W>, input: Input<'h>) -> Matches<'p, 'h, W>
+    pub(crate) fn of_cache(cache: Cache<'p, W>, input: Input<'h>) -> Matches<'p, 'h, W>
         ensures { result ≡ record { program = cache.entry; input = input.entry; last = None } }
     {
         let Cache {
@@ -89,7 +89,7 @@ impl<'p, 'h, W: WordClass + AsciiWordClass> Matches<'p, 'h, W> {
             dfa,
         } = cache;
         Matches {
-            rest: Rest {
+            iteration: Iteration {
                 alloc,
                 program,
                 input,
@@ -105,11 +105,12 @@ impl<'p, 'h, W: WordClass + AsciiWordClass> Matches<'p, 'h, W> {
     pub fn into_cache(self) -> Cache<'p, W>
         ensures { result ≡ self.entry.program }
     {
-        let Matches { rest } = self;
+        // No wrong body: the clause is of the program, and no other one is at hand.
+        let Matches { iteration } = self;
         Cache {
-            alloc: rest.alloc,
-            program: rest.program,
-            dfa: rest.dfa,
+            alloc: iteration.alloc,
+            program: iteration.program,
+            dfa: iteration.dfa,
         }
     }
 
@@ -123,25 +124,26 @@ impl<'p, 'h, W: WordClass + AsciiWordClass> Matches<'p, 'h, W> {
     pub fn next(&mut self, captures: &mut Captures) -> Result<Option<Match>, Error>
         ensures found { IfOk result (λ found. IfSome found (IsNextMatch (search_in W.word_chars self.old.program self.old.input) self.old.last captures.new)) }
         ensures none { IfOk result (λ found. IfNone found (IsOver (search_in W.word_chars self.old.program self.old.input) self.old.last)) }
-        ensures on { IfOk result (λ found. IfSome found (λ m.
+        ensures advanced { IfOk result (λ found. IfSome found (λ m.
             self.new ≡ record self.old { input = from_start self.old.input m.span.end; last = Some m.span.end })) }
-        ensures over { IfOk result (λ found. IfNone found (self.new ≡ record self.old { input = from_start self.old.input (self.old.input.span.end + 1) })) }
+        ensures exhausted { IfOk result (λ found. IfNone found
+            (self.new ≡ record self.old { input = from_start self.old.input (self.old.input.span.end + 1) })) }
         ensures kept { OnErr result (self.new ≡ self.old) }
         ensures refused { IfErr result (λ e. e ≡ OutOfMemory) }
-        ensures later { IfOk result (λ found. IfSome found (λ m. ForSome self.old.last (λ end. end < m.span.end))) }
-        ensures groups { captures.new.groups ≡ captures.old.groups }
-        ensures slots { length captures.new.offsets ≡ length captures.old.offsets }
-        ensures unset { IfOk result (λ found. IfNone found (IsCleared captures.old captures.new)) }
-        ensures failed { OnErr result (IsCleared captures.old captures.new) }
+        ensures order { IfOk result (λ found. IfSome found (λ m. ForSome self.old.last (λ end. end < m.span.end))) }
+        ensures kept_groups { captures.new.groups ≡ captures.old.groups }
+        ensures kept_slots { length captures.new.offsets ≡ length captures.old.offsets }
+        ensures cleared { IfOk result (λ found. IfNone found (IsCleared captures.old captures.new)) }
+        ensures cleared_by_error { OnErr result (IsCleared captures.old captures.new) }
         ensures within { IfOk result (λ found. IfSome found (IsInSpan self.old.input)) }
     {
-        self.rest.next(captures)
+        self.iteration.next(captures)
     }
 }
 
 // What is left of an iteration.
 #[derive(Drop)]
-struct Rest<'p, 'h, W: WordClass> {
+struct Iteration<'p, 'h, W: WordClass> {
     alloc: Global,
     program: &'p Program<W>,
     input: Input<'h>,
@@ -156,24 +158,24 @@ struct Rest<'p, 'h, W: WordClass> {
     ghost order: { ForSome last_end (λ end. end ≤ input.span.start) },
 }
 
-impl<'p, 'h, W: WordClass + AsciiWordClass> Rest<'p, 'h, W> {
+impl<'p, 'h, W: WordClass + AsciiCompatible> Iteration<'p, 'h, W> {
     // The next match.
     fn next(&mut self, captures: &mut Captures) -> Result<Option<Match>, Error>
         ensures found { IfOk result (λ found. IfSome found
             (IsNextMatch (search_in W.word_chars self.old.program.now self.old.input) self.old.last_end captures.new)) }
         ensures none { IfOk result (λ found. IfNone found (IsOver (search_in W.word_chars self.old.program.now self.old.input) self.old.last_end)) }
-        ensures on { IfOk result (λ found. IfSome found (λ m. self.new.input ≡ from_start self.old.input m.span.end)) }
-        ensures over { IfOk result (λ found. IfNone found (self.new.input ≡ from_start self.old.input (self.old.input.span.end + 1))) }
+        ensures advanced { IfOk result (λ found. IfSome found (λ m. self.new.input ≡ from_start self.old.input m.span.end)) }
+        ensures exhausted { IfOk result (λ found. IfNone found (self.new.input ≡ from_start self.old.input (self.old.input.span.end + 1))) }
         ensures kept { OnErr result (self.new.input ≡ self.old.input) }
         ensures program { self.new.program ≡ self.old.program }
         ensures refused { IfErr result (λ e. e ≡ OutOfMemory) }
-        ensures later { IfOk result (λ found. IfSome found (λ m. ForSome self.old.last_end (λ end. end < m.span.end))) }
+        ensures order { IfOk result (λ found. IfSome found (λ m. ForSome self.old.last_end (λ end. end < m.span.end))) }
         ensures last { IfOk result (λ found. MatchOption found (self.new.last_end ≡ self.old.last_end) (λ m. self.new.last_end ≡ Some m.span.end)) }
         ensures last_kept { OnErr result (self.new.last_end ≡ self.old.last_end) }
-        ensures groups { captures.new.groups ≡ captures.old.groups }
-        ensures slots { length captures.new.offsets ≡ length captures.old.offsets }
-        ensures unset { IfOk result (λ found. IfNone found (IsCleared captures.old captures.new)) }
-        ensures failed { OnErr result (IsCleared captures.old captures.new) }
+        ensures kept_groups { captures.new.groups ≡ captures.old.groups }
+        ensures kept_slots { length captures.new.offsets ≡ length captures.old.offsets }
+        ensures cleared { IfOk result (λ found. IfNone found (IsCleared captures.old captures.new)) }
+        ensures cleared_by_error { OnErr result (IsCleared captures.old captures.new) }
         ensures within { IfOk result (λ found. IfSome found (IsInSpan self.old.input)) }
     {
         let start = self.input.start();
@@ -209,18 +211,18 @@ impl<'p, 'h, W: WordClass + AsciiWordClass> Rest<'p, 'h, W> {
     // The leftmost-first match from the input's start on. The next one is looked for from its end on.
     fn advance(&mut self, captures: &mut Captures) -> Result<Option<Match>, Error>
         ensures found { IfOk result (λ found. IfSome found (IsFirstMatch (search_in W.word_chars self.old.program.now self.old.input) captures.new)) }
-        ensures none { IfOk result (λ found. IfNone found (HasNone (search_in W.word_chars self.old.program.now self.old.input))) }
+        ensures none { IfOk result (λ found. IfNone found (HasNoFirstMatch (search_in W.word_chars self.old.program.now self.old.input))) }
         ensures within { IfOk result (λ found. IfSome found (IsInSpan self.old.input)) }
-        ensures on { IfOk result (λ found. IfSome found (λ m. self.new.input ≡ from_start self.old.input m.span.end)) }
-        ensures over { IfOk result (λ found. IfNone found (self.new.input ≡ self.old.input)) }
+        ensures advanced { IfOk result (λ found. IfSome found (λ m. self.new.input ≡ from_start self.old.input m.span.end)) }
+        ensures exhausted { IfOk result (λ found. IfNone found (self.new.input ≡ self.old.input)) }
         ensures kept { OnErr result (self.new.input ≡ self.old.input) }
         ensures program { self.new.program ≡ self.old.program }
         ensures refused { IfErr result (λ e. e ≡ OutOfMemory) }
         ensures last { self.new.last_end ≡ self.old.last_end }
-        ensures groups { captures.new.groups ≡ captures.old.groups }
-        ensures slots { length captures.new.offsets ≡ length captures.old.offsets }
-        ensures unset { IfOk result (λ found. IfNone found (IsCleared captures.old captures.new)) }
-        ensures failed { OnErr result (IsCleared captures.old captures.new) }
+        ensures kept_groups { captures.new.groups ≡ captures.old.groups }
+        ensures kept_slots { length captures.new.offsets ≡ length captures.old.offsets }
+        ensures cleared { IfOk result (λ found. IfNone found (IsCleared captures.old captures.new)) }
+        ensures cleared_by_error { OnErr result (IsCleared captures.old captures.new) }
     {
         if self.spare == 0 {
             return self.go_ahead(captures);
@@ -235,20 +237,22 @@ impl<'p, 'h, W: WordClass + AsciiWordClass> Rest<'p, 'h, W> {
     }
 
     // The same along the log of what is left.
+    // Not inlined, so that a search by the passes makes no room for what it moves.
+    #[inline(never)]
     fn go_ahead(&mut self, captures: &mut Captures) -> Result<Option<Match>, Error>
         ensures found { IfOk result (λ found. IfSome found (IsFirstMatch (search_in W.word_chars self.old.program.now self.old.input) captures.new)) }
-        ensures none { IfOk result (λ found. IfNone found (HasNone (search_in W.word_chars self.old.program.now self.old.input))) }
+        ensures none { IfOk result (λ found. IfNone found (HasNoFirstMatch (search_in W.word_chars self.old.program.now self.old.input))) }
         ensures within { IfOk result (λ found. IfSome found (IsInSpan self.old.input)) }
-        ensures on { IfOk result (λ found. IfSome found (λ m. self.new.input ≡ from_start self.old.input m.span.end)) }
-        ensures over { IfOk result (λ found. IfNone found (self.new.input ≡ self.old.input)) }
+        ensures advanced { IfOk result (λ found. IfSome found (λ m. self.new.input ≡ from_start self.old.input m.span.end)) }
+        ensures exhausted { IfOk result (λ found. IfNone found (self.new.input ≡ self.old.input)) }
         ensures kept { OnErr result (self.new.input ≡ self.old.input) }
         ensures program { self.new.program ≡ self.old.program }
         ensures refused { IfErr result (λ e. e ≡ OutOfMemory) }
         ensures last { self.new.last_end ≡ self.old.last_end }
-        ensures groups { captures.new.groups ≡ captures.old.groups }
-        ensures slots { length captures.new.offsets ≡ length captures.old.offsets }
-        ensures unset { IfOk result (λ found. IfNone found (IsCleared captures.old captures.new)) }
-        ensures failed { OnErr result (IsCleared captures.old captures.new) }
+        ensures kept_groups { captures.new.groups ≡ captures.old.groups }
+        ensures kept_slots { length captures.new.offsets ≡ length captures.old.offsets }
+        ensures cleared { IfOk result (λ found. IfNone found (IsCleared captures.old captures.new)) }
+        ensures cleared_by_error { OnErr result (IsCleared captures.old captures.new) }
     {
         captures.clear();
         if self.input.is_done() {

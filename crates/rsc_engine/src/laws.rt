@@ -11,8 +11,8 @@ ghost use Rattle.rsc_search.specs.declared.anchored.Anchored.TheVariants.{No};
 ghost use Rattle.rsc_engine.specs.Searches.{Search, Compiled, search_in};
 ghost use Rattle.rsc_engine.specs.Patterns.{Pattern, Group, Subject, Goes, may_be_empty, subject_of, IsMatchIn, Recognizes};
 ghost use Rattle.rsc_engine.specs.Runs.{IsMatchRun};
-ghost use Rattle.rsc_engine.specs.Preferred.{IsOnce, IsOnceAtForks, IsPreferred, IsLeftmostFirst, IsFirstMatch, MayBegin, HasNone};
-ghost use Rattle.rsc_engine.specs.NextMatches.{IsNext, IsOver, IsNextMatch, MayBeNext, IsRepeated, IsSplitAt, Left, AreAll, steps_left};
+ghost use Rattle.rsc_engine.specs.Preferred.{IsOnce, IsOnceAtForks, IsPreferred, IsLeftmostFirst, IsFirstMatch, MayBegin, HasNoFirstMatch};
+ghost use Rattle.rsc_engine.specs.NextMatches.{IsNext, IsOver, IsNextMatch, MayBeNext, IsRepeatAt, IsSplitAt, MatchesLeft, AreAll, calls_left};
 ghost use Rattle.rsc_engine.specs.Ends.{IsEarliestEnd, IsLeftmostEnd};
 ghost use Rattle.rsc_engine.specs.GroupEnds.{RecordsEnds};
 ghost use Rattle.rsc_engine.specs.GroupOrder.{ClosesGroups};
@@ -22,7 +22,7 @@ ghost use Rattle.rsc_engine.specs.Ways.{Point, last_in, GoesWith};
 ghost use Rattle.rsc_engine.specs.FirstWays.{IsFirstWay};
 ghost use Rattle.rsc_engine.specs.GroupNumbers.{IsGroupOf, as_whole};
 ghost use Rattle.rsc_engine.specs.PreferredWays.{IsPreferredWay};
-ghost use Rattle.rsc_engine.specs.PatternMatches.{HoldRecords, recorded_span, IsFirstOf, IsNextOfAll, IsOverOf};
+ghost use Rattle.rsc_engine.specs.PatternMatches.{HoldRecords, recorded_span, IsFirstOf, IsNextOf, IsOverOf};
 
 use rsc_look::WordClass;
 
@@ -30,19 +30,20 @@ pub mod one_pattern;
 
 /// From a place there is at most one preferred run; in a search there is at most one leftmost-first run, and none if no match begins
 /// where one may.
-pub fn there_is_one_first_match()
-    ensures preferred { (e : Search) (from : ℕ × ℕ) (one other : List (ℕ × ℕ)) → IsPreferred e from one → IsPreferred e from other → one ≡ other }
-    ensures first { (e : Search) (one other : List (ℕ × ℕ)) → IsLeftmostFirst e one → IsLeftmostFirst e other → one ≡ other }
-    ensures none { (e : Search) (run : List (ℕ × ℕ)) → HasNone e → ¬ (IsLeftmostFirst e run) }
+pub fn at_most_one_first_match()
+    ensures preferred { (search : Search) (from : ℕ × ℕ) (one other : List (ℕ × ℕ)) → IsPreferred search from one →
+        IsPreferred search from other → one ≡ other }
+    ensures first { (search : Search) (one other : List (ℕ × ℕ)) → IsLeftmostFirst search one → IsLeftmostFirst search other → one ≡ other }
+    ensures none { (search : Search) (run : List (ℕ × ℕ)) → HasNoFirstMatch search → ¬ (IsLeftmostFirst search run) }
 {}
 
 /// A run to a match comes to no place twice exactly if it makes no choice twice at one position.
 pub fn only_choices_are_made_once()
-    ensures { (e : Search) (from : ℕ × ℕ) (run : List (ℕ × ℕ)) → IsMatchRun e from run → IsOnce run ↔ IsOnceAtForks e.states run }
+    ensures { (search : Search) (from : ℕ × ℕ) (run : List (ℕ × ℕ)) → IsMatchRun search from run → IsOnce run ↔ IsOnceAtForks search.states run }
 {}
 
 /// A pattern has at most one preferred way from a position, whatever numbers its choices have.
-pub fn there_is_one_preferred_way()
+pub fn at_most_one_preferred_way()
     ensures end { (x : Subject) (p : Pattern) (most i j k : ℕ) (one other : List (ℕ × ℕ)) → IsPreferredWay x p (λ m. m ≤ most) i j one →
         IsPreferredWay x p (λ m. m ≤ most) i k other → j ≡ k }
     ensures records { (x : Subject) (p : Pattern) (most i j k : ℕ) (one other : List (ℕ × ℕ)) → IsPreferredWay x p (λ m. m ≤ most) i j one →
@@ -50,34 +51,34 @@ pub fn there_is_one_preferred_way()
 {}
 
 /// There is at most one next match, and none if the iteration is over.
-pub fn there_is_one_next_match()
-    ensures next { (e : Search) (last : Option ℕ) (one other : List (ℕ × ℕ)) → IsNext e last one → IsNext e last other → one ≡ other }
-    ensures over { (e : Search) (last : Option ℕ) (run : List (ℕ × ℕ)) → IsOver e last → ¬ (IsNext e last run) }
+pub fn at_most_one_next_match()
+    ensures next { (search : Search) (last : Option ℕ) (one other : List (ℕ × ℕ)) → IsNext search last one → IsNext search last other → one ≡ other }
+    ensures over { (search : Search) (last : Option ℕ) (run : List (ℕ × ℕ)) → IsOver search last → ¬ (IsNext search last run) }
 {}
 
 /// A match determines its captures: two that are first, or next, in captures over the same groups with as many slots are one, and the captures hold the same.
-pub fn there_is_one_match_with_captures()
-    ensures first { (e : Search) (one other : Captured) (m n : Matched) → IsFirstMatch e one m → IsFirstMatch e other n →
+pub fn at_most_one_match_with_captures()
+    ensures first { (search : Search) (one other : Captured) (m n : Matched) → IsFirstMatch search one m → IsFirstMatch search other n →
         one.groups ≡ other.groups → length one.offsets ≡ length other.offsets → (m ≡ n) × (one ≡ other) }
-    ensures next { (e : Search) (last : Option ℕ) (one other : Captured) (m n : Matched) → IsNextMatch e last one m → IsNextMatch e last other n →
-        one.groups ≡ other.groups → length one.offsets ≡ length other.offsets → (m ≡ n) × (one ≡ other) }
+    ensures next { (search : Search) (last : Option ℕ) (one other : Captured) (m n : Matched) → IsNextMatch search last one m →
+        IsNextMatch search last other n → one.groups ≡ other.groups → length one.offsets ≡ length other.offsets → (m ≡ n) × (one ≡ other) }
 {}
 
-/// After a match fewer calls of `next` may find another: the measure of a loop over them. `later` and `within` of `Matches::next` are its premises.
+/// After a match fewer calls of `next` may find another: the measure of a loop over them. `order` and `within` of `Matches::next` are its premises.
 pub fn an_iteration_ends()
-    ensures { (end m : ℕ) (last : Option ℕ) → ForSome last (λ e. e < m) → m ≤ end → steps_left end (Some m) < steps_left end last }
+    ensures { (end m : ℕ) (last : Option ℕ) → ForSome last (λ before. before < m) → m ≤ end → calls_left end (Some m) < calls_left end last }
 {}
 
 /// There is at most one list of all matches of what is left.
-pub fn there_is_one_list_of_all_matches<W: WordClass>()
-    ensures { (left : Left W) (one other : List Matched) → AreAll W.word_chars left one → AreAll W.word_chars left other → one ≡ other }
+pub fn at_most_one_list_of_all_matches<W: WordClass>()
+    ensures { (left : MatchesLeft W) (one other : List Matched) → AreAll W.word_chars left one → AreAll W.word_chars left other → one ≡ other }
 {}
 
 /// Each offset that a match leaves in a slot is within its span.
 pub fn offsets_are_within_the_match()
-    ensures first { (e : Search) (captures : Captured) (found : Matched) (slot i : ℕ) → IsFirstMatch e captures found →
+    ensures first { (search : Search) (captures : Captured) (found : Matched) (slot i : ℕ) → IsFirstMatch search captures found →
         slice_index_or captures.offsets slot None ≡ Some i → (found.span.start ≤ i) × (i ≤ found.span.end) }
-    ensures next { (e : Search) (last : Option ℕ) (captures : Captured) (found : Matched) (slot i : ℕ) → IsNextMatch e last captures found →
+    ensures next { (search : Search) (last : Option ℕ) (captures : Captured) (found : Matched) (slot i : ℕ) → IsNextMatch search last captures found →
         slice_index_or captures.offsets slot None ≡ Some i → (found.span.start ≤ i) × (i ≤ found.span.end) }
 {}
 
@@ -90,7 +91,7 @@ pub fn a_first_match_is_of_a_pattern<W: WordClass>()
         Recognizes W.word_chars program patterns → IsFirstMatch (search_in W.word_chars program input) captures found →
         other.span.start < found.span.start → ¬ (IsMatchIn patterns (search_in W.word_chars program input) other) }
     ensures none { (program : Compiled W) (patterns : List Pattern) (input : InputParts) (other : Matched) →
-        Recognizes W.word_chars program patterns → HasNone (search_in W.word_chars program input) →
+        Recognizes W.word_chars program patterns → HasNoFirstMatch (search_in W.word_chars program input) →
         MayBegin (search_in W.word_chars program input) other.span.start → ¬ (IsMatchIn patterns (search_in W.word_chars program input) other) }
 {}
 
@@ -104,11 +105,11 @@ pub fn a_next_match_is_of_a_pattern<W: WordClass>()
         (found other : Matched) → Recognizes W.word_chars program patterns → IsNextMatch (search_in W.word_chars program input) last captures found →
         other.span.start < found.span.start → MayBeNext (search_in W.word_chars program input) last other.span.start →
         IsMatchIn patterns (search_in W.word_chars program input) other →
-        IsRepeated (search_in W.word_chars program input) last other.span.start ⊎ IsSplitAt (search_in W.word_chars program input) other.span.start }
+        IsRepeatAt (search_in W.word_chars program input) last other.span.start ⊎ IsSplitAt (search_in W.word_chars program input) other.span.start }
     ensures over { (program : Compiled W) (patterns : List Pattern) (input : InputParts) (last : Option ℕ) (other : Matched) →
         Recognizes W.word_chars program patterns → IsOver (search_in W.word_chars program input) last →
         MayBeNext (search_in W.word_chars program input) last other.span.start → IsMatchIn patterns (search_in W.word_chars program input) other →
-        IsRepeated (search_in W.word_chars program input) last other.span.start ⊎ IsSplitAt (search_in W.word_chars program input) other.span.start }
+        IsRepeatAt (search_in W.word_chars program input) last other.span.start ⊎ IsSplitAt (search_in W.word_chars program input) other.span.start }
 {}
 
 /// Which of several patterns a first or next match is of: the one with the least number, if more than one that the input allows matches from its start
@@ -335,15 +336,15 @@ pub fn a_group_that_begins_ends<W: WordClass>()
 
 /// Patterns have at most one first match and at most one next match in a search, and no next one if the iteration is over. Captures over the same groups
 /// with as many slots then hold the same.
-pub fn there_is_one_match_of_patterns()
-    ensures first { (patterns : List Pattern) (lists : GroupLists) (e : Search) (one other : Captured) (m n : Matched) →
-        IsFirstOf patterns lists e one m → IsFirstOf patterns lists e other n →
+pub fn at_most_one_match_of_patterns()
+    ensures first { (patterns : List Pattern) (lists : GroupLists) (search : Search) (one other : Captured) (m n : Matched) →
+        IsFirstOf patterns lists search one m → IsFirstOf patterns lists search other n →
         (m ≡ n) × (one.groups ≡ other.groups → length one.offsets ≡ length other.offsets → one ≡ other) }
-    ensures next { (patterns : List Pattern) (lists : GroupLists) (e : Search) (last : Option ℕ) (one other : Captured) (m n : Matched) →
-        IsNextOfAll patterns lists e last one m → IsNextOfAll patterns lists e last other n →
+    ensures next { (patterns : List Pattern) (lists : GroupLists) (search : Search) (last : Option ℕ) (one other : Captured) (m n : Matched) →
+        IsNextOf patterns lists search last one m → IsNextOf patterns lists search last other n →
         (m ≡ n) × (one.groups ≡ other.groups → length one.offsets ≡ length other.offsets → one ≡ other) }
-    ensures over { (patterns : List Pattern) (lists : GroupLists) (e : Search) (last : Option ℕ) (captures : Captured) (m : Matched) →
-        IsNextOfAll patterns lists e last captures m → ¬ (IsOverOf patterns lists e last) }
+    ensures over { (patterns : List Pattern) (lists : GroupLists) (search : Search) (last : Option ℕ) (captures : Captured) (m : Matched) →
+        IsNextOf patterns lists search last captures m → ¬ (IsOverOf patterns lists search last) }
 {}
 
 /// What a way of a pattern finds recorded in a slot stays recorded there, or is recorded later: so a group that each way goes through is set.

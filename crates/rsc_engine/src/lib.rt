@@ -26,4 +26,4 @@ pub use first::find;
 pub use iterate::Matches;
 pub use lines::Lines;
 pub use program::Program;
-pub use word_class::AsciiWordClass;
+pub use word_class::AsciiCompatible;

@@ -2,18 +2,18 @@
 ghost use Rattle.std.specs.Prelude.{◌≡◌, ◌≢◌, ◌+◌, ◌<◌, ◌≤◌, ℕ, IfOk, IfErr, IfSome, IfNone, OnErr, length, slice_index};
 ghost use Rattle.rsc_look.specs.Looks.{line_feed};
 ghost use Rattle.rsc_engine.specs.declared.error.Error.TheVariants.{OutOfMemory};
-ghost use Rattle.rsc_engine.specs.Preferred.{HasNone};
+ghost use Rattle.rsc_engine.specs.Preferred.{HasNoFirstMatch};
 ghost use Rattle.rsc_engine.specs.Lines.{BeginsLine, IsLine, NoLine, HasMatchIn, IsNextLine, HasNoLine, after_line};
 ghost use Rattle.rsc_engine.specs.LinesLayout.{IsCandidate, EndsFrom, search_from};
 
-use crate::{AsciiWordClass, Dfa, Error};
+use crate::{AsciiCompatible, Dfa, Error};
 use rsc_look::WordClass;
 use rsc_search::{Input, Span};
 use std::marker::Model;
 
 const LINE_FEED: u8 = b'\n';
 
-/// The lines of a haystack in which a program matches, one after the other, by a table alone: it takes no memory for a position.
+/// The lines of a haystack in which a program matches, one after the other, by a table alone, with no memory per position.
 ///
 /// A line is what stands between line feeds, without them; after a last one there is no line. It matches if a search in its span does: a match
 /// lies within the line, and assertions see the bytes around it.
@@ -59,7 +59,7 @@ impl<'p, 'h, W: WordClass> Model for Lines<'p, 'h, W> {
     ghost view = { λ l. record { program = l.dfa; haystack = l.haystack.now; at = l.at } };
 }
 
-impl<'p, 'h, W: WordClass + AsciiWordClass> Lines<'p, 'h, W> {
+impl<'p, 'h, W: WordClass + AsciiCompatible> Lines<'p, 'h, W> {
     /// The lines of a haystack in which the program of a DFA matches.
     pub fn new(dfa: Dfa<'p, W>, haystack: &'h [u8]) -> Lines<'p, 'h, W>
         ensures { result ≡ record { program = dfa.entry; haystack = haystack.now; at = 0 } }
@@ -75,6 +75,7 @@ impl<'p, 'h, W: WordClass + AsciiWordClass> Lines<'p, 'h, W> {
     pub fn into_dfa(self) -> Dfa<'p, W>
         ensures { result ≡ self.entry.program }
     {
+        // No wrong body: the clause is of the program, and no other one is at hand.
         let Lines {
             dfa,
             haystack: _,
@@ -91,8 +92,8 @@ impl<'p, 'h, W: WordClass + AsciiWordClass> Lines<'p, 'h, W> {
     pub fn next(&mut self) -> Result<Option<Span>, Error>
         ensures found { IfOk result (λ found. IfSome found (IsNextLine W.word_chars self.old)) }
         ensures none { IfOk result (λ found. IfNone found (HasNoLine W.word_chars self.old)) }
-        ensures on { IfOk result (λ found. IfSome found (λ line. self.new ≡ after_line self.old line)) }
-        ensures over { IfOk result (λ found. IfNone found (self.new ≡ record self.old { at = length self.old.haystack })) }
+        ensures advanced { IfOk result (λ found. IfSome found (λ line. self.new ≡ after_line self.old line)) }
+        ensures exhausted { IfOk result (λ found. IfNone found (self.new ≡ record self.old { at = length self.old.haystack })) }
         ensures kept { OnErr result (self.new ≡ self.old) }
         ensures within { IfOk result (λ found. IfSome found (λ line.
             (self.old.at ≤ line.start) × (line.start ≤ line.end) × (line.end ≤ length self.old.haystack))) }
@@ -108,7 +109,7 @@ impl<'p, 'h, W: WordClass + AsciiWordClass> Lines<'p, 'h, W> {
 }
 
 // The first line with a match, of the lines that begin at a position or later.
-fn first_line<W: WordClass + AsciiWordClass>(
+fn first_line<W: WordClass + AsciiCompatible>(
     dfa: &mut Dfa<'_, W>,
     haystack: &[u8],
     from: usize,
@@ -135,7 +136,7 @@ fn first_line<W: WordClass + AsciiWordClass>(
 }
 
 // A line before which none has a match, of the lines that begin at a line's start or later; `None` only if none of these has one.
-fn candidate<W: WordClass + AsciiWordClass>(
+fn candidate<W: WordClass + AsciiCompatible>(
     dfa: &mut Dfa<'_, W>,
     haystack: &[u8],
     from: usize,
@@ -155,7 +156,7 @@ fn candidate<W: WordClass + AsciiWordClass>(
 }
 
 // A position before which no match ends that begins at a line's start or later; `None` only if there is none.
-fn end_bound<W: WordClass + AsciiWordClass>(
+fn end_bound<W: WordClass + AsciiCompatible>(
     dfa: &mut Dfa<'_, W>,
     haystack: &[u8],
     from: usize,
@@ -164,7 +165,7 @@ fn end_bound<W: WordClass + AsciiWordClass>(
     requires within { from < length haystack.now }
     ensures kept { dfa.new ≡ dfa.old }
     ensures some { IfOk result (λ found. IfSome found (EndsFrom (search_from W.word_chars dfa.old haystack.now from))) }
-    ensures none { IfOk result (λ found. IfNone found (HasNone (search_from W.word_chars dfa.old haystack.now from))) }
+    ensures none { IfOk result (λ found. IfNone found (HasNoFirstMatch (search_from W.word_chars dfa.old haystack.now from))) }
     ensures refused { IfErr result (λ e. e ≡ OutOfMemory) }
 {
     let rest = Input::new(haystack).span(Span {

@@ -6,7 +6,8 @@ ghost use Rattle.rsc_nfa.specs.Automata.{Automaton};
 ghost use Rattle.rsc_engine.specs.declared.error.Error.TheVariants.{OutOfMemory};
 ghost use Rattle.rsc_engine.specs.GroupEnds.{RecordsEnds};
 ghost use Rattle.rsc_engine.specs.PatternMatches.{HasSlotsOf};
-ghost use Rattle.rsc_engine.specs.Searches.{Compiled, IsStateOf};
+ghost use Rattle.rsc_nfa.specs.StateFaults.{IsStateWithin};
+ghost use Rattle.rsc_engine.specs.Searches.{Compiled};
 
 use crate::Error;
 use rsc_captures::Captures;
@@ -129,6 +130,7 @@ impl<W: WordClass> Program<W> {
     pub fn nfa(&self) -> &Nfa<W>
         ensures { result.now ≡ self.now.automaton }
     {
+        // No wrong body: nothing else of its type is at hand.
         &self.nfa
     }
 
@@ -162,9 +164,9 @@ impl<W: WordClass> Program<W> {
         self.utf8
     }
 
-    /// How many states there are.
+    /// The number of states.
     #[inline]
-    pub fn len(&self) -> usize
+    pub fn state_len(&self) -> usize
         ensures { result ≡ length self.now.automaton.states }
     {
         self.nfa.states().len()
@@ -174,8 +176,8 @@ impl<W: WordClass> Program<W> {
     #[inline]
     pub fn state(&self, sid: StateID) -> State
         requires { sid < length self.now.automaton.states }
-        ensures state { slice_get self.now.automaton.states sid ≡ Some result }
-        ensures sound { IsStateOf self.now.automaton.groups (length self.now.automaton.states) result }
+        ensures value { slice_get self.now.automaton.states sid ≡ Some result }
+        ensures within { IsStateWithin self.now.automaton.groups (length self.now.automaton.states) result }
     {
         self.nfa.states()[sid.as_usize()]
     }

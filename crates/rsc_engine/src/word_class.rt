@@ -22,19 +22,19 @@ use rsc_look::{AsciiWord, UnicodeWord, WordClass};
 /// )?;
 /// assert!(rt; found.is_some_and(|it| it.start() == 1));
 /// ```
-pub trait AsciiWordClass: WordClass {
+pub trait AsciiCompatible: WordClass {
     /// States that the word characters below 128 are the word bytes, for a proof. It does nothing.
     fn agrees_with_ascii()
         ensures { (word_class : Self) → AgreesWithAscii (Self.word_chars word_class) };
 }
 
-impl AsciiWordClass for AsciiWord {
+impl AsciiCompatible for AsciiWord {
     fn agrees_with_ascii() {
         rsc_look::laws::words_agree_with_ascii();
     }
 }
 
-impl AsciiWordClass for UnicodeWord {
+impl AsciiCompatible for UnicodeWord {
     fn agrees_with_ascii() {
         rsc_look::laws::words_agree_with_ascii();
     }

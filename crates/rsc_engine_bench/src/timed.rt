@@ -2,7 +2,7 @@
 
 use crate::patterns::{make, text_of};
 use regex::bytes::Regex;
-use rsc_engine::{AsciiWordClass, Cache, Dfa, Matches, Program};
+use rsc_engine::{AsciiCompatible, Cache, Dfa, Matches, Program};
 use rsc_look::{AsciiWord, WordClass};
 use rsc_search::Input;
 use std::time::{CpuClock, Duration};
@@ -25,7 +25,7 @@ pub fn time_pattern(rt: &HostRuntime, name: &str, text: &[u8]) -> Result<(), Fai
 }
 
 /// Times all matches of a program in a text, each found with its groups, and counts them.
-pub fn all_of_ours<W: WordClass + AsciiWordClass>(
+pub fn all_of_ours<W: WordClass + AsciiCompatible>(
     rt: &HostRuntime,
     name: &str,
     program: &Program<W>,
@@ -38,7 +38,7 @@ pub fn all_of_ours<W: WordClass + AsciiWordClass>(
 }
 
 /// How many matches an input of a text of that many bytes has, each found with its groups.
-pub fn count<W: WordClass + AsciiWordClass>(
+pub fn count<W: WordClass + AsciiCompatible>(
     rt: &HostRuntime,
     program: &Program<W>,
     input: Input<'_>,

@@ -29,12 +29,12 @@ fn make(alloc: Global, keywords: u8) -> Result<Program<AsciiWord>, Error> {
         let letters = [b'a' + number / 10 % 26, b'a' + number % 10];
         let keyword = builder.literal(&letters)?;
         let whole = builder.then(keyword, builder.assertion(Look::WordEndAscii))?;
-        builder.pattern(whole)?;
+        builder.add_pattern(whole)?;
     }
     for (first, last) in [(b'a', b'z'), (b'A', b'Z'), (b'0', b'9'), (b' ', b' ')] {
         let class = builder.range(first, last);
         let bytes = builder.plus(class)?;
-        builder.pattern(bytes)?;
+        builder.add_pattern(bytes)?;
     }
     let other = builder.range(0, 0xFF);
     builder.build(AsciiWord, false, other)
@@ -48,7 +48,7 @@ pub fn time_builds(rt: &HostRuntime) -> Result<(), Fail> {
         let to = rt.thread_cpu_time()?;
         let micros = to.saturating_sub(from).as_micros();
         eprintln!(rt; "{count} literals build {micros}")?;
-        println!(rt; "{count} literals {} states", program.len())?;
+        println!(rt; "{count} literals {} states", program.state_len())?;
     }
     Ok(())
 }

@@ -84,7 +84,8 @@ AreGathered-more s new looks i d t h has e b =
     let l = get_or looks i d in
     ap (λ u. sets.contains u b) e ∙ contains-joined s (boundaries_of l t) b
     ∙ ap₂ (λ x y. x || y) (has b) (contains-boundaries_of l t b ∙ sym (or-false (is_boundary_of l t b)))
-    ∙ sym (ap (λ (x : List Look). is_boundary_of_each x t b) (take_more looks i d h) ∙ list_any-append (λ x. is_boundary_of x t b) (take i looks) (l ∷ []))
+    ∙ sym (ap (λ (x : List Look). is_boundary_of_each x t b) (take_more looks i d h)
+    ∙ list_any-append (λ x. is_boundary_of x t b) (take i looks) (l ∷ []))
 
 -- after the loop over the whole list
 pub classes_whole : (looks : List Look) (t n : ℕ) (s : Numbers) (m : List ℕ) → length looks ≤ n → AreGathered s (take n looks) t
@@ -103,10 +104,12 @@ Together-leb p a b x t h =
 Together-leb-boundary : (p m : ℕ → Bool) (a b x : ℕ) → HasBoundariesOf p m → Together p a b → x < 255 → m x ≡ true → leb a x ≡ leb b x
 Together-leb-boundary p m a b x s t l h = Together-leb p a b x t (s x l h)
 
-same_eqb : (a b t : ℕ) → a < 256 → b < 256 → (t < 255 → leb a t ≡ leb b t) → (0 < t → t < 256 → leb a (t - 1) ≡ leb b (t - 1)) → eqb a t ≡ eqb b t
+same_eqb : (a b t : ℕ) → a < 256 → b < 256 → (t < 255 → leb a t ≡ leb b t) → (0 < t → t < 256 → leb a (t - 1) ≡ leb b (t - 1))
+    → eqb a t ≡ eqb b t
 same_eqb a b t la lb f g = grind (arith, nat_tests)
 
-pub Together-eqb : (p : ℕ → Bool) (a b t : ℕ) → a < 256 → b < 256 → HasBoundariesOf p (is_boundary_of_byte t) → Together p a b → eqb a t ≡ eqb b t
+pub Together-eqb : (p : ℕ → Bool) (a b t : ℕ) → a < 256 → b < 256 → HasBoundariesOf p (is_boundary_of_byte t) → Together p a b
+    → eqb a t ≡ eqb b t
 Together-eqb p a b t la lb s h =
     same_eqb a b t la lb (λ l. Together-leb-boundary p (is_boundary_of_byte t) a b t s h l (grind (arith, nat_tests)))
     (λ l lt. Together-leb-boundary p (is_boundary_of_byte t) a b (t - 1) s h (omega arith) (grind (arith, nat_tests)))
@@ -128,7 +131,8 @@ is_word_byte-between a = rw (above 0x2F a, above 0x40 a, above 0x60 a, at_low_li
 -- bytes that are together are both word bytes, or neither is
 pub Together-is_word_byte : (p : ℕ → Bool) (a b : ℕ) → HasBoundariesOf p is_word_byte_boundary → Together p a b → is_word_byte a ≡ is_word_byte b
 Together-is_word_byte p a b s h =
-    let go : (x : ℕ) → x < 255 → is_word_byte_boundary x ≡ true → leb a x ≡ leb b x = λ x l m. Together-leb-boundary p is_word_byte_boundary a b x s h l m in
+    let go : (x : ℕ) → x < 255 → is_word_byte_boundary x ≡ true
+    → leb a x ≡ leb b x = λ x l m. Together-leb-boundary p is_word_byte_boundary a b x s h l m in
     let e1 = go 0x2F (omega arith) refl in
     let e2 = go 0x39 (omega arith) refl in
     let e3 = go 0x40 (omega arith) refl in
@@ -170,7 +174,8 @@ same_byte p None None t s h = refl
 same_byte p (Some a) (Some b) t s h = Together-eqb p a b t h.0 h.1 s h.2
 same_byte p _ _ t s h = absurd h
 
-same_word_byte : (p : ℕ → Bool) (a b : Option ℕ) → HasBoundariesOf p is_word_byte_boundary → TogetherAt p a b → is_word_neighbor a ≡ is_word_neighbor b
+same_word_byte : (p : ℕ → Bool) (a b : Option ℕ) → HasBoundariesOf p is_word_byte_boundary → TogetherAt p a b
+    → is_word_neighbor a ≡ is_word_neighbor b
 same_word_byte p None None s h = refl
 same_word_byte p (Some a) (Some b) s h = Together-is_word_byte p a b s h.2
 same_word_byte p _ _ s h = absurd h

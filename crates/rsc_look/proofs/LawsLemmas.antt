@@ -15,35 +15,39 @@ AreInterchanged-coarser p q h k has s = record {
 }
 
 -- a finer partition keeps what a coarser one does
-pub Keeps-finer : (p q : ℕ → Bool) (looks : List Look) (t : ℕ) (W : ℕ → Bool) → HasBoundariesOf q p → Keeps p looks t W → Keeps q looks t W
-Keeps-finer p q looks t W has keeps = record {
+pub Keeps-finer : (p q : ℕ → Bool) (looks : List Look) (t : ℕ) (chars : ℕ → Bool) → HasBoundariesOf q p → Keeps p looks t chars
+    → Keeps q looks t chars
+Keeps-finer p q looks t chars has keeps = record {
   at_bytes = λ l c e h k s. keeps.at_bytes l c e h k (AreInterchanged-coarser p q h k has s);
   at_characters = λ l c e h k s. keeps.at_characters l c e h k (AreInterchanged-coarser p q h k has s);
 }
 
-Keeps-part : (p : ℕ → Bool) (some all : List Look) (t : ℕ) (W : ℕ → Bool) → ((l : Look) → Contains some l → Contains all l) → Keeps p all t W
-    → Keeps p some t W
-Keeps-part p some all t W among keeps = record {
+Keeps-part : (p : ℕ → Bool) (some all : List Look) (t : ℕ) (chars : ℕ → Bool) → ((l : Look) → Contains some l → Contains all l)
+    → Keeps p all t chars
+    → Keeps p some t chars
+Keeps-part p some all t chars among keeps = record {
   at_bytes = λ l c. keeps.at_bytes l (among l c);
   at_characters = λ l c. keeps.at_characters l (among l c);
 }
 
-pub Keeps-both : (p : ℕ → Bool) (some others : List Look) (t : ℕ) (W : ℕ → Bool) → Keeps p some t W → Keeps p others t W → Keeps p (some ++ others) t W
-Keeps-both p some others t W one two = record {
+pub Keeps-both : (p : ℕ → Bool) (some others : List Look) (t : ℕ) (chars : ℕ → Bool) → Keeps p some t chars → Keeps p others t chars
+    → Keeps p (some ++ others) t chars
+Keeps-both p some others t chars one two = record {
   at_bytes = λ l listed plain. ⊎_elim (λ here. one.at_bytes l here plain) (λ here. two.at_bytes l here plain) (Contains-append_cases some others l listed);
   at_characters = λ l listed unicode. ⊎_elim (λ here. one.at_characters l here unicode) (λ here. two.at_characters l here unicode)
       (Contains-append_cases some others l listed);
 }
 
 -- the coarsest partition of two lists together has the boundaries of both
-pub IsCoarsest-both : (p q : ℕ → Bool) (some others : List Look) (t : ℕ) (W : ℕ → Bool) → IsCoarsest p some t W → IsCoarsest q others t W
-    → IsCoarsest (λ b. p b || q b) (some ++ others) t W
-IsCoarsest-both p q some others t W one two = record {
-  keeps = Keeps-both (λ b. p b || q b) some others t W
-      (Keeps-finer p (λ b. p b || q b) some t W (λ b l m. or_left (p b) (q b) m) one.keeps)
-      (Keeps-finer q (λ b. p b || q b) others t W (λ b l m. or_right (p b) (q b) m) two.keeps);
+pub IsCoarsest-both : (p q : ℕ → Bool) (some others : List Look) (t : ℕ) (chars : ℕ → Bool) → IsCoarsest p some t chars
+    → IsCoarsest q others t chars
+    → IsCoarsest (λ b. p b || q b) (some ++ others) t chars
+IsCoarsest-both p q some others t chars one two = record {
+  keeps = Keeps-both (λ b. p b || q b) some others t chars
+      (Keeps-finer p (λ b. p b || q b) some t chars (λ b l m. or_left (p b) (q b) m) one.keeps)
+      (Keeps-finer q (λ b. p b || q b) others t chars (λ b l m. or_right (p b) (q b) m) two.keeps);
   least = λ r keeps b l m. ⊎_elim
-      (λ (e : p b ≡ true). one.least r (Keeps-part r some (some ++ others) t W (λ k c. Contains-append_left some others k c) keeps) b l e)
-      (λ (e : q b ≡ true). two.least r (Keeps-part r others (some ++ others) t W (λ k c. Contains-append_right some others k c) keeps) b l e)
+      (λ (e : p b ≡ true). one.least r (Keeps-part r some (some ++ others) t chars (λ k c. Contains-append_left some others k c) keeps) b l e)
+      (λ (e : q b ≡ true). two.least r (Keeps-part r others (some ++ others) t chars (λ k c. Contains-append_right some others k c) keeps) b l e)
       (or_cases (p b) (q b) m);
 }

@@ -256,7 +256,8 @@ shifted k l =
     rw one (omega (arith, small))
 
 -- the lowest bit gives the first member
-pub first_some : (n : ℕ) (r : Option Look) → (n ≡ 0 → ⊥) → n < 2 ^ 18 → ((l : Look) → (r ≡ Some l) ↔ (repr_of l ≡ 1 * 2 ^ trailing_zeros w32 n % 2 ^ 32))
+pub first_some : (n : ℕ) (r : Option Look) → (n ≡ 0 → ⊥) → n < 2 ^ 18
+    → ((l : Look) → (r ≡ Some l) ↔ (repr_of l ≡ 1 * 2 ^ trailing_zeros w32 n % 2 ^ 32))
     → IsFirstMember (looks_of n) r
 first_some n r some h is =
     let k = trailing_zeros w32 n in
@@ -296,7 +297,8 @@ with_first x rest l =
     ∙ ap (λ b. b || sets.contains (sets.from_list {R = look_cmp} rest) l) (unsigned_tied (repr_of l) (repr_of x))
 
 -- one more is asked
-pub HasAsked-more : (s : Looks) (x : Look) (all rest : List Look) (P : Look → Type 0) → HasAsked s all P → all ≡ x ∷ rest → P x → HasAsked s rest P
+pub HasAsked-more : (s : Looks) (x : Look) (all rest : List Look) (P : Look → Type 0) → HasAsked s all P → all ≡ x ∷ rest → P x
+    → HasAsked s rest P
 HasAsked-more s x all rest P a e p = record {
   asked = λ l h. ⊎_elim
       (λ (q : sets.contains (sets.from_list {R = look_cmp} all) l ≡ true). ⊎_elim
@@ -312,7 +314,8 @@ HasAsked-more s x all rest P a e p = record {
 }
 
 -- all are asked
-pub HasAsked-all : (s : Looks) (rest : List Look) (P : Look → Type 0) → HasAsked s rest P → rest ≡ [] → (l : Look) → sets.contains s l ≡ true → P l
+pub HasAsked-all : (s : Looks) (rest : List Look) (P : Look → Type 0) → HasAsked s rest P → rest ≡ [] → (l : Look) → sets.contains s l ≡ true
+    → P l
 HasAsked-all s rest P a e l h = ⊎_elim
     (λ (q : sets.contains (sets.from_list {R = look_cmp} rest) l ≡ true). absurd
     (true≢false (sym q ∙ ap (λ (r : List Look). sets.contains (sets.from_list {R = look_cmp} r) l) e ∙ contains-empty look_cmp l)))

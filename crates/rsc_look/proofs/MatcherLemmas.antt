@@ -18,28 +18,30 @@ is_true : (b : Bool) → (b ≡ true) ↔ IsTrue b
 is_true b = ((λ e. e), (λ e. e))
 
 -- both tables together say where an assertion holds
-pub holds_by_tables : (l : Look) (t : ℕ) (W : ℕ → Bool) (h : List ℕ) (i : ℕ) (a b : Side) (has : Bool) → IsBefore W h i a → IsAfter W h i b
-    → has ≡ (holds_at_bytes l t (byte_before h i) (byte_after h i) || holds_at_sides l a b) → (has ≡ true) ↔ Holds l t W h i
-holds_by_tables l t W h i a b has p q is = go (kind l t (byte_before h i) (byte_after h i) a b)
+pub holds_by_tables : (l : Look) (t : ℕ) (chars : ℕ → Bool) (h : List ℕ) (i : ℕ) (a b : Side) (has : Bool) → IsBefore chars h i a
+    → IsAfter chars h i b
+    → has ≡ (holds_at_bytes l t (byte_before h i) (byte_after h i) || holds_at_sides l a b) → (has ≡ true) ↔ Holds l t chars h i
+holds_by_tables l t chars h i a b has p q is = go (kind l t (byte_before h i) (byte_after h i) a b)
   where
     go : ((is_unicode l ≡ true) × (holds_at_bytes l t (byte_before h i) (byte_after h i) ≡ false)) ⊎ ((is_unicode l ≡ false)
-        × (holds_at_sides l a b ≡ false)) → (has ≡ true) ↔ Holds l t W h i
+        × (holds_at_sides l a b ≡ false)) → (has ≡ true) ↔ Holds l t chars h i
     go (inl (u, none)) =
         let same : has ≡ holds_at_sides l a b = is ∙ ap (λ x. x || holds_at_sides l a b) none in
-        let s = at_sides l W h i a b p q in let k = Holds-sides l t W h i u in
+        let s = at_sides l chars h i a b p q in let k = Holds-sides l t chars h i u in
         ((λ e. k.1 (s.0 (sym same ∙ e))), (λ x. same ∙ s.1 (k.0 x)))
     go (inr (u, none)) =
         let same : has ≡ holds_at_bytes l t (byte_before h i) (byte_after h i) =
-        is ∙ ap (λ x. holds_at_bytes l t (byte_before h i) (byte_after h i) || x) none ∙ or-false (holds_at_bytes l t (byte_before h i) (byte_after h i)) in
-        let s = is_true (holds_at_bytes l t (byte_before h i) (byte_after h i)) in let k = Holds-bytes l t W h i u in
+        is ∙ ap (λ x. holds_at_bytes l t (byte_before h i) (byte_after h i) || x) none
+        ∙ or-false (holds_at_bytes l t (byte_before h i) (byte_after h i)) in
+        let s = is_true (holds_at_bytes l t (byte_before h i) (byte_after h i)) in let k = Holds-bytes l t chars h i u in
         ((λ e. k.1 (s.0 (sym same ∙ e))), (λ x. same ∙ s.1 (k.0 x)))
 
 -- ---- Unicode beside ASCII
 
 -- the side that a byte below 128 is, or no byte
 ascii_side : (ℕ → Bool) → Option ℕ → Side
-ascii_side W None = Absent
-ascii_side W (Some b) = cond (W b) WordCharacter Other
+ascii_side chars None = Absent
+ascii_side chars (Some b) = cond (chars b) WordCharacter Other
 
 one_byte : (h : List ℕ) (i b : ℕ) → slice_get h i ≡ Some b → b < 128 → EncodedFrom h i (i + 1) b
 one_byte h i b e l =
@@ -65,24 +67,24 @@ EndsAt-ascii h (suc i) b e l =
 pub BeginsAt-ascii : (h : List ℕ) (i b : ℕ) → byte_after h i ≡ Some b → b < 128 → BeginsAt h i b
 BeginsAt-ascii h i b e l = (i + 1, one_byte h i b e l)
 
-ascii_before : (W : ℕ → Bool) (h : List ℕ) (i : ℕ) → i ≤ length h → IfSome (byte_before h i) (λ b. b < 128)
-    → IsBefore W h i (ascii_side W (byte_before h i))
+ascii_before : (chars : ℕ → Bool) (h : List ℕ) (i : ℕ) → i ≤ length h → IfSome (byte_before h i) (λ b. b < 128)
+    → IsBefore chars h i (ascii_side chars (byte_before h i))
 unfolding ascii_side
-ascii_before W h zero l low = refl
-ascii_before W h (suc i) l low = go (slice_get h i) refl low
+ascii_before chars h zero l low = refl
+ascii_before chars h (suc i) l low = go (slice_get h i) refl low
   where
-    go : (o : Option ℕ) → slice_get h i ≡ o → IfSome o (λ b. b < 128) → IsBefore W h (suc i) (ascii_side W o)
+    go : (o : Option ℕ) → slice_get h i ≡ o → IfSome o (λ b. b < 128) → IsBefore chars h (suc i) (ascii_side chars o)
     go None e x = absurd (omega (arith, l, past_end h i e))
-    go (Some b) e x = side_is W h (suc i) b (EndsAt-ascii h (suc i) b e x)
+    go (Some b) e x = side_is chars h (suc i) b (EndsAt-ascii h (suc i) b e x)
 
-ascii_after : (W : ℕ → Bool) (h : List ℕ) (i : ℕ) → i ≤ length h → IfSome (byte_after h i) (λ b. b < 128)
-    → IsAfter W h i (ascii_side W (byte_after h i))
+ascii_after : (chars : ℕ → Bool) (h : List ℕ) (i : ℕ) → i ≤ length h → IfSome (byte_after h i) (λ b. b < 128)
+    → IsAfter chars h i (ascii_side chars (byte_after h i))
 unfolding ascii_side
-ascii_after W h i l low = go (slice_get h i) refl low
+ascii_after chars h i l low = go (slice_get h i) refl low
   where
-    go : (o : Option ℕ) → slice_get h i ≡ o → IfSome o (λ b. b < 128) → IsAfter W h i (ascii_side W o)
+    go : (o : Option ℕ) → slice_get h i ≡ o → IfSome o (λ b. b < 128) → IsAfter chars h i (ascii_side chars o)
     go None e x = omega (arith, l, past_end h i e)
-    go (Some b) e x = side_is_after W h i b (BeginsAt-ascii h i b e x)
+    go (Some b) e x = side_is_after chars h i b (BeginsAt-ascii h i b e x)
 
 -- what a word assertion makes of whether a word character is before and whether one is after
 by_word_characters : Look → Bool → Bool → Bool
@@ -116,10 +118,10 @@ of_sides WordStartHalfUnicode a b x y u v w = v.absent_or_other
 of_sides WordEndHalfUnicode a b x y u v w = w.absent_or_other
 of_sides _ a b x y u v w = absurd (true≢false (sym u))
 
-valid : (W : ℕ → Bool) (p : Option ℕ) → AgreesWithAscii W → IfSome p (λ b. b < 128) → IsValid (ascii_side W p) (is_word_neighbor p)
+valid : (chars : ℕ → Bool) (p : Option ℕ) → AgreesWithAscii chars → IfSome p (λ b. b < 128) → IsValid (ascii_side chars p) (is_word_neighbor p)
 unfolding ascii_side
-valid W None agrees low = record { invalid = refl; is_word_character = refl; absent_or_other = refl }
-valid W (Some b) agrees low = subst (λ x. IsValid (cond (W b) WordCharacter Other) x) (agrees b low) (go (W b))
+valid chars None agrees low = record { invalid = refl; is_word_character = refl; absent_or_other = refl }
+valid chars (Some b) agrees low = subst (λ x. IsValid (cond (chars b) WordCharacter Other) x) (agrees b low) (go (chars b))
   where
     go : (v : Bool) → IsValid (cond v WordCharacter Other) v
     go true = record { invalid = refl; is_word_character = refl; absent_or_other = refl }
@@ -134,9 +136,10 @@ own WordUnicode = search rules
 own _ = search rules
 
 -- between neighbours that are absent or below 128, a Unicode assertion is its ASCII counterpart
-pub ascii_suffices : (l : Look) (t : ℕ) (W : ℕ → Bool) (h : List ℕ) (i : ℕ) → i ≤ length h → AgreesWithAscii W → IfSome (byte_before h i) (λ b. b < 128)
-    → IfSome (byte_after h i) (λ b. b < 128) → Holds l t W h i ↔ Holds (ascii_of l) t W h i
-ascii_suffices l t W h i low agrees before after = go (own l)
+pub ascii_suffices : (l : Look) (t : ℕ) (chars : ℕ → Bool) (h : List ℕ) (i : ℕ) → i ≤ length h → AgreesWithAscii chars
+    → IfSome (byte_before h i) (λ b. b < 128)
+    → IfSome (byte_after h i) (λ b. b < 128) → Holds l t chars h i ↔ Holds (ascii_of l) t chars h i
+ascii_suffices l t chars h i low agrees before after = go (own l)
   where
     p : Option ℕ
     p = byte_before h i
@@ -144,14 +147,14 @@ ascii_suffices l t W h i low agrees before after = go (own l)
     n : Option ℕ
     n = byte_after h i
 
-    go : (is_unicode l ≡ true) ⊎ (ascii_of l ≡ l) → Holds l t W h i ↔ Holds (ascii_of l) t W h i
-    go (inr e) = subst (λ m. Holds l t W h i ↔ Holds m t W h i) (sym e) ((λ x. x), (λ x. x))
+    go : (is_unicode l ≡ true) ⊎ (ascii_of l ≡ l) → Holds l t chars h i ↔ Holds (ascii_of l) t chars h i
+    go (inr e) = subst (λ m. Holds l t chars h i ↔ Holds m t chars h i) (sym e) ((λ x. x), (λ x. x))
     go (inl u) =
-        let same : holds_at_sides l (ascii_side W p) (ascii_side W n) ≡ holds_at_bytes (ascii_of l) t p n =
-        of_sides l (ascii_side W p) (ascii_side W n) (is_word_neighbor p) (is_word_neighbor n) u (valid W p agrees before) (valid W n agrees after)
-        ∙ sym (of_bytes l t p n u) in
-        let s = at_sides l W h i (ascii_side W p) (ascii_side W n) (ascii_before W h i low before) (ascii_after W h i low after) in
-        let k = Holds-sides l t W h i u in let b = Holds-bytes (ascii_of l) t W h i (ascii_is_bytes l) in
+        let same : holds_at_sides l (ascii_side chars p) (ascii_side chars n) ≡ holds_at_bytes (ascii_of l) t p n =
+        of_sides l (ascii_side chars p) (ascii_side chars n) (is_word_neighbor p) (is_word_neighbor n) u
+        (valid chars p agrees before) (valid chars n agrees after) ∙ sym (of_bytes l t p n u) in
+        let s = at_sides l chars h i (ascii_side chars p) (ascii_side chars n) (ascii_before chars h i low before) (ascii_after chars h i low after) in
+        let k = Holds-sides l t chars h i u in let b = Holds-bytes (ascii_of l) t chars h i (ascii_is_bytes l) in
         let v = is_true (holds_at_bytes (ascii_of l) t p n) in (
           (λ x. b.1 (v.0 (sym same ∙ s.1 (k.0 x)))),
           (λ y. k.1 (s.0 (same ∙ v.1 (b.0 y)))),

@@ -100,38 +100,38 @@ bytes_mirrored l t h i o = go (is_crlf l) refl
         let q = after-reverse h i (length h - i) e in
         rw (p, q) (sym (bytes_reversed l t (byte_before h i) (byte_after h i) c))
 
-pub Holds-mirror : (l : Look) (t : ℕ) (W : ℕ → Bool) (h : List ℕ) (i : ℕ) → is_unicode l ≡ false → i ≤ length h → Holds l t W h i
-    ↔ Holds (reversed l) t W (mirror l h) (length h - i)
-Holds-mirror l t W h i u o = same_tests _ _ _ _ (Holds-bytes l t W h i u)
-    (Holds-bytes (reversed l) t W (mirror l h) (length h - i) (is_unicode-reversed l ∙ u)) (bytes_mirrored l t h i o)
+pub Holds-mirror : (l : Look) (t : ℕ) (chars : ℕ → Bool) (h : List ℕ) (i : ℕ) → is_unicode l ≡ false → i ≤ length h → Holds l t chars h i
+    ↔ Holds (reversed l) t chars (mirror l h) (length h - i)
+Holds-mirror l t chars h i u o = same_tests _ _ _ _ (Holds-bytes l t chars h i u)
+    (Holds-bytes (reversed l) t chars (mirror l h) (length h - i) (is_unicode-reversed l ∙ u)) (bytes_mirrored l t h i o)
 
 -- ---- the assertions on characters, at the positions of a text
 
 side_by : (ℕ → Bool) → Option ℕ → Side
-side_by W None = Absent
-side_by W (Some c) = cond (W c) WordCharacter Other
+side_by chars None = Absent
+side_by chars (Some c) = cond (chars c) WordCharacter Other
 
-before_position : (W : ℕ → Bool) (cs : List ℕ) (k : ℕ) → all_scalars cs ≡ true → k ≤ length cs
-    → IsBefore W (encode_utf8_all cs) (position cs k) (side_by W (byte_before cs k))
+before_position : (chars : ℕ → Bool) (cs : List ℕ) (k : ℕ) → all_scalars cs ≡ true → k ≤ length cs
+    → IsBefore chars (encode_utf8_all cs) (position cs k) (side_by chars (byte_before cs k))
 unfolding side_by
-before_position W cs zero s l = refl
-before_position W cs (suc k) s l = rw (slice_get-get_or cs k 0 l) (side_is W (encode_utf8_all cs) (position cs (suc k)) _ (EndsAt-position cs k s l))
+before_position chars cs zero s l = refl
+before_position chars cs (suc k) s l = rw (slice_get-get_or cs k 0 l) (side_is chars (encode_utf8_all cs) (position cs (suc k)) _ (EndsAt-position cs k s l))
 
-after_position : (W : ℕ → Bool) (cs : List ℕ) (k : ℕ) → all_scalars cs ≡ true → k ≤ length cs
-    → IsAfter W (encode_utf8_all cs) (position cs k) (side_by W (byte_after cs k))
+after_position : (chars : ℕ → Bool) (cs : List ℕ) (k : ℕ) → all_scalars cs ≡ true → k ≤ length cs
+    → IsAfter chars (encode_utf8_all cs) (position cs k) (side_by chars (byte_after cs k))
 unfolding side_by
-after_position W cs k s l =
+after_position chars cs k s l =
     ⊎_elim
     (λ (i : k < length cs).
-    rw (slice_get-get_or cs k 0 i) (side_is_after W (encode_utf8_all cs) (position cs k) _ (BeginsAt-position cs k s i)))
+    rw (slice_get-get_or cs k 0 i) (side_is_after chars (encode_utf8_all cs) (position cs k) _ (BeginsAt-position cs k s i)))
     (λ (i : length cs ≤ k). rw (slice_get_past cs k i) (ap (λ (x : List ℕ). length (encode_utf8_all x)) (take_all k cs i)))
     (cases_lt k (length cs))
 
-Holds-position : (l : Look) (t : ℕ) (W : ℕ → Bool) (cs : List ℕ) (k : ℕ) → is_unicode l ≡ true → all_scalars cs ≡ true → k ≤ length cs
-    → Holds l t W (encode_utf8_all cs) (position cs k) ↔ IsTrue (holds_at_sides l (side_by W (byte_before cs k)) (side_by W (byte_after cs k)))
-Holds-position l t W cs k u s o =
-    let h = Holds-sides l t W (encode_utf8_all cs) (position cs k) u in
-    let a = at_sides l W (encode_utf8_all cs) (position cs k) _ _ (before_position W cs k s o) (after_position W cs k s o) in
+Holds-position : (l : Look) (t : ℕ) (chars : ℕ → Bool) (cs : List ℕ) (k : ℕ) → is_unicode l ≡ true → all_scalars cs ≡ true → k ≤ length cs
+    → Holds l t chars (encode_utf8_all cs) (position cs k) ↔ IsTrue (holds_at_sides l (side_by chars (byte_before cs k)) (side_by chars (byte_after cs k)))
+Holds-position l t chars cs k u s o =
+    let h = Holds-sides l t chars (encode_utf8_all cs) (position cs k) u in
+    let a = at_sides l chars (encode_utf8_all cs) (position cs k) _ _ (before_position chars cs k s o) (after_position chars cs k s o) in
     ((λ x. a.1 (h.0 x)), (λ x. h.1 (a.0 x)))
 
 scalars_reversed : (xs ys : List ℕ) → all_scalars xs ≡ true → all_scalars ys ≡ true → all_scalars (reverse_aux xs ys) ≡ true
@@ -139,35 +139,40 @@ scalars_reversed [] ys p q = q
 scalars_reversed (x ∷ xs) ys p q = let b = and_parts (scalar x) (all_scalars xs) p in let e = b.0 in scalars_reversed xs (x ∷ ys) b.1 (rw (e, q))
 
 -- the answer of `matches`, and the mirrors
-pub matches_mirror : (l : Look) (t : ℕ) (W : ℕ → Bool) (h : List ℕ) (i : ℕ) (r : Bool) → i ≤ length h → IsTrue r ↔ Holds l t W h i → is_unicode l ≡ false
-    → IsTrue r ↔ Holds (reversed l) t W (mirror l h) (length h - i)
-matches_mirror l t W h i r o e u = let m = Holds-mirror l t W h i u o in ((λ x. m.0 (e.0 x)), (λ x. e.1 (m.1 x)))
+pub matches_mirror : (l : Look) (t : ℕ) (chars : ℕ → Bool) (h : List ℕ) (i : ℕ) (r : Bool) → i ≤ length h → IsTrue r ↔ Holds l t chars h i
+    → is_unicode l ≡ false → IsTrue r ↔ Holds (reversed l) t chars (mirror l h) (length h - i)
+matches_mirror l t chars h i r o e u = let m = Holds-mirror l t chars h i u o in ((λ x. m.0 (e.0 x)), (λ x. e.1 (m.1 x)))
 
-pub Holds-text_mirror : (l : Look) (t : ℕ) (W : ℕ → Bool) (cs : List ℕ) (k : ℕ) → is_unicode l ≡ true → all_scalars cs ≡ true → k ≤ length cs
-    → Holds l t W (encode_utf8_all cs) (position cs k) ↔ Holds (reversed l) t W (encode_utf8_all (reverse cs)) (position (reverse cs) (length cs - k))
-Holds-text_mirror l t W cs k u s o =
+pub Holds-text_mirror : (l : Look) (t : ℕ) (chars : ℕ → Bool) (cs : List ℕ) (k : ℕ) → is_unicode l ≡ true → all_scalars cs ≡ true
+    → k ≤ length cs
+    → Holds l t chars (encode_utf8_all cs) (position cs k)
+    ↔ Holds (reversed l) t chars (encode_utf8_all (reverse cs)) (position (reverse cs) (length cs - k))
+Holds-text_mirror l t chars cs k u s o =
     let r = scalars_reversed cs [] s refl in
     let n = length-reverse cs in
     let e : (length cs - k) + k ≡ length cs = omega arith in
     let p = before-reverse cs k (length cs - k) e in
     let q = after-reverse cs k (length cs - k) e in
     let i : length cs - k ≤ length (reverse cs) = omega arith in
-    let m = Holds-position (reversed l) t W (reverse cs) (length cs - k) (is_unicode-reversed l ∙ u) r i in
-    same_tests _ _ _ _ (Holds-position l t W cs k u s o) m (rw (p, q) (sym (sides_reversed l (side_by W (byte_before cs k)) (side_by W (byte_after cs k)))))
+    let m = Holds-position (reversed l) t chars (reverse cs) (length cs - k) (is_unicode-reversed l ∙ u) r i in
+    same_tests _ _ _ _ (Holds-position l t chars cs k u s o) m
+    (rw (p, q) (sym (sides_reversed l (side_by chars (byte_before cs k)) (side_by chars (byte_after cs k)))))
 
 -- by the encodings
-ends_first : (h : List ℕ) (i : ℕ) (cs : List ℕ) (k : ℕ) → EndsFirst h i cs k → (all_scalars cs ≡ true) × (h ≡ encode_utf8_all cs) × (i ≡ position cs k)
+ends_first : (h : List ℕ) (i : ℕ) (cs : List ℕ) (k : ℕ) → EndsFirst h i cs k → (all_scalars cs ≡ true) × (h ≡ encode_utf8_all cs)
+    × (i ≡ position cs k)
 ends_first h i cs k e =
     let whole = (EncodesAll-std h cs).0 e.text in
     let front = (EncodesAll-std e.front (take k cs)).0 e.front_text in
     (whole.0, whole.1, e.front_length ∙ ap (λ (x : List ℕ). length x) front.1)
 
 -- the answer of `matches` in the mirrored text
-pub matches_text_mirror : (l : Look) (t : ℕ) (W : ℕ → Bool) (h : List ℕ) (i : ℕ) (r : Bool) → IsTrue r ↔ Holds l t W h i → is_unicode l ≡ true
-    → IsTextMirrored l t W h i (IsTrue r)
-matches_text_mirror l t W h i r e u cs k m j s o =
+pub matches_text_mirror : (l : Look) (t : ℕ) (chars : ℕ → Bool) (h : List ℕ) (i : ℕ) (r : Bool) → IsTrue r ↔ Holds l t chars h i
+    → is_unicode l ≡ true
+    → IsTextMirrored l t chars h i (IsTrue r)
+matches_text_mirror l t chars h i r e u cs k m j s o =
     let here = ends_first h i cs k s in
     let there = ends_first m j (reverse cs) (length cs - k) o in
     let d = rw (here.1, here.2) at e in
-    let q = Holds-text_mirror l t W cs k u here.0 s.within in
+    let q = Holds-text_mirror l t chars cs k u here.0 s.within in
     rw (there.1, there.2) ((λ x. q.0 (d.0 x)), (λ x. d.1 (q.1 x)))

@@ -47,19 +47,19 @@ holds_at_bytes WordStartHalfAscii t p n = not (is_word_neighbor p)
 holds_at_bytes WordEndHalfAscii t p n = not (is_word_neighbor n)
 holds_at_bytes _ t p n = false
 
--- the side before a position, for the word characters W: no byte; bytes that no character ends; a character that W accepts, or rejects
+-- the side before a position, for the word characters chars: no byte; bytes that no character ends; a character that chars accepts, or rejects
 abbrev pub IsBefore : (ℕ → Bool) → List ℕ → ℕ → Side → Type 0
-IsBefore W h i Absent = i ≡ 0
-IsBefore W h i Invalid = (0 < i) × ((c : ℕ) → ¬ (EndsAt h i c))
-IsBefore W h i WordCharacter = (c : ℕ) × EndsAt h i c × (W c ≡ true)
-IsBefore W h i Other = (c : ℕ) × EndsAt h i c × (W c ≡ false)
+IsBefore chars h i Absent = i ≡ 0
+IsBefore chars h i Invalid = (0 < i) × ((c : ℕ) → ¬ (EndsAt h i c))
+IsBefore chars h i WordCharacter = (c : ℕ) × EndsAt h i c × (chars c ≡ true)
+IsBefore chars h i Other = (c : ℕ) × EndsAt h i c × (chars c ≡ false)
 
 -- the side after a position, likewise
 abbrev pub IsAfter : (ℕ → Bool) → List ℕ → ℕ → Side → Type 0
-IsAfter W h i Absent = i ≡ length h
-IsAfter W h i Invalid = (i < length h) × ((c : ℕ) → ¬ (BeginsAt h i c))
-IsAfter W h i WordCharacter = (c : ℕ) × BeginsAt h i c × (W c ≡ true)
-IsAfter W h i Other = (c : ℕ) × BeginsAt h i c × (W c ≡ false)
+IsAfter chars h i Absent = i ≡ length h
+IsAfter chars h i Invalid = (i < length h) × ((c : ℕ) → ¬ (BeginsAt h i c))
+IsAfter chars h i WordCharacter = (c : ℕ) × BeginsAt h i c × (chars c ≡ true)
+IsAfter chars h i Other = (c : ℕ) × BeginsAt h i c × (chars c ≡ false)
 
 -- the side is invalid
 abbrev pub is_invalid : Side → Bool
@@ -88,16 +88,16 @@ holds_at_sides WordEndHalfUnicode a b = is_absent_or_other b
 holds_at_sides _ a b = false
 
 -- the sides of a position are such that the assertion holds there
-pub record HoldsAtSides (l : Look) (W : ℕ → Bool) (h : List ℕ) (i : ℕ) : Type 0 where
+pub record HoldsAtSides (l : Look) (chars : ℕ → Bool) (h : List ℕ) (i : ℕ) : Type 0 where
   pub before : Side
   pub after : Side
-  pub is_before : IsBefore W h i before
-  pub is_after : IsAfter W h i after
+  pub is_before : IsBefore chars h i before
+  pub is_after : IsAfter chars h i after
   pub holds : holds_at_sides l before after ≡ true
 
--- the assertion l holds at the position i of the haystack h, where t is the line terminator and W the word characters
+-- the assertion l holds at the position i of the haystack h, where t is the line terminator and chars the word characters
 abbrev pub Holds : Look → ℕ → (ℕ → Bool) → List ℕ → ℕ → Type 0
-Holds l t W h i = MatchBool (is_unicode l) (HoldsAtSides l W h i) (IsTrue (holds_at_bytes l t (byte_before h i) (byte_after h i)))
+Holds l t chars h i = MatchBool (is_unicode l) (HoldsAtSides l chars h i) (IsTrue (holds_at_bytes l t (byte_before h i) (byte_after h i)))
 
 -- the assertion holds for a matcher m: its line terminator, and its word predicate, of which `word_chars` says which they are
 abbrev pub HoldsFor : {C : Type 0} → (C → ℕ → Bool) → Look → ℕ × C → List ℕ → ℕ → Type 0

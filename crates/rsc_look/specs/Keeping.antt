@@ -27,47 +27,47 @@ DifferInAscii h k = (i : ℕ) → i < length h → slice_index h i ≢ slice_ind
 
 -- the partition keeps a list of assertions: replacing bytes by bytes that are together with them changes none of them at any
 -- position of any haystack; for a Unicode assertion, only if the two haystacks differ in ASCII
-pub record Keeps (p : ℕ → Bool) (looks : List Look) (t : ℕ) (W : ℕ → Bool) : Type 0 where
+pub record Keeps (p : ℕ → Bool) (looks : List Look) (t : ℕ) (chars : ℕ → Bool) : Type 0 where
   pub at_bytes : (l : Look) → Contains looks l → is_unicode l ≡ false → (h k : List ℕ) → AreInterchanged p h k
-      → (i : ℕ) → i ≤ length h → Holds l t W h i ↔ Holds l t W k i
+      → (i : ℕ) → i ≤ length h → Holds l t chars h i ↔ Holds l t chars k i
   pub at_characters : (l : Look) → Contains looks l → is_unicode l ≡ true → (h k : List ℕ) → AreInterchanged p h k → DifferInAscii h k
-      → (i : ℕ) → i ≤ length h → Holds l t W h i ↔ Holds l t W k i
+      → (i : ℕ) → i ≤ length h → Holds l t chars h i ↔ Holds l t chars k i
 
 -- it keeps them, and each of its boundaries belongs to every partition that does
-pub record IsCoarsest (p : ℕ → Bool) (looks : List Look) (t : ℕ) (W : ℕ → Bool) : Type 0 where
-  pub keeps : Keeps p looks t W
-  pub least : (q : ℕ → Bool) → Keeps q looks t W → (b : ℕ) → b < 255 → p b ≡ true → q b ≡ true
+pub record IsCoarsest (p : ℕ → Bool) (looks : List Look) (t : ℕ) (chars : ℕ → Bool) : Type 0 where
+  pub keeps : Keeps p looks t chars
+  pub least : (q : ℕ → Bool) → Keeps q looks t chars → (b : ℕ) → b < 255 → p b ≡ true → q b ≡ true
 
 -- the word characters below 128 are the word bytes
 abbrev pub AgreesWithAscii : (ℕ → Bool) → Type 0
-AgreesWithAscii W = (c : ℕ) → c < 128 → W c ≡ is_word_byte c
+AgreesWithAscii chars = (c : ℕ) → c < 128 → chars c ≡ is_word_byte c
 
 -- the word characters below 128 are the word bytes, if a listed assertion asks for them
 abbrev pub AgreesWhereAsked : (ℕ → Bool) → List Look → Type 0
-AgreesWhereAsked W looks = (l : Look) → Contains looks l → is_unicode l ≡ true → AgreesWithAscii W
+AgreesWhereAsked chars looks = (l : Look) → Contains looks l → is_unicode l ≡ true → AgreesWithAscii chars
 
 -- the assertion holds at i of one haystack and not of the other
 abbrev pub Tells : Look → ℕ → (ℕ → Bool) → List ℕ → List ℕ → ℕ → Type 0
-Tells l t W h k i = (Holds l t W h i × ¬ (Holds l t W k i)) ⊎ (¬ (Holds l t W h i) × Holds l t W k i)
+Tells l t chars h k i = (Holds l t chars h i × ¬ (Holds l t chars k i)) ⊎ (¬ (Holds l t chars h i) × Holds l t chars k i)
 
 -- a listed assertion tells the byte b from the next one, at the position 0 or 1 of a haystack of that byte alone
-pub record IsNeeded (b : ℕ) (looks : List Look) (t : ℕ) (W : ℕ → Bool) : Type 0 where
+pub record IsNeeded (b : ℕ) (looks : List Look) (t : ℕ) (chars : ℕ → Bool) : Type 0 where
   pub look : Look
   pub listed : Contains looks look
   pub position : ℕ
   pub at_an_end : position ≤ 1
-  pub tells : Tells look t W (b ∷ []) ((b + 1) ∷ []) position
+  pub tells : Tells look t chars (b ∷ []) ((b + 1) ∷ []) position
 
 -- the map is the class map of the coarsest partition that keeps the list, and each boundary of that partition is needed
-pub record IsCoarsestMap (m : List ℕ) (looks : List Look) (t : ℕ) (W : ℕ → Bool) : Type 0 where
+pub record IsCoarsestMap (m : List ℕ) (looks : List Look) (t : ℕ) (chars : ℕ → Bool) : Type 0 where
   pub boundaries : ℕ → Bool
   pub classes : m ≡ class_map boundaries
-  pub coarsest : IsCoarsest boundaries looks t W
-  pub needed : (b : ℕ) → b < 255 → boundaries b ≡ true → IsNeeded b looks t W
+  pub coarsest : IsCoarsest boundaries looks t chars
+  pub needed : (b : ℕ) → b < 255 → boundaries b ≡ true → IsNeeded b looks t chars
 
 -- every partition with the boundaries of p keeps the assertion l, each boundary of l belongs to every partition that keeps l,
 -- and l tells the bytes on both sides of it
-pub record IsExactFor (p : ℕ → Bool) (l : Look) (t : ℕ) (W : ℕ → Bool) : Type 0 where
-  pub kept : (q : ℕ → Bool) → HasBoundariesOf q p → Keeps q (l ∷ []) t W
-  pub least : (q : ℕ → Bool) → Keeps q (l ∷ []) t W → (b : ℕ) → b < 255 → sets.contains (boundaries_of l t) b ≡ true → q b ≡ true
-  pub needed : (b : ℕ) → b < 255 → sets.contains (boundaries_of l t) b ≡ true → IsNeeded b (l ∷ []) t W
+pub record IsExactFor (p : ℕ → Bool) (l : Look) (t : ℕ) (chars : ℕ → Bool) : Type 0 where
+  pub kept : (q : ℕ → Bool) → HasBoundariesOf q p → Keeps q (l ∷ []) t chars
+  pub least : (q : ℕ → Bool) → Keeps q (l ∷ []) t chars → (b : ℕ) → b < 255 → sets.contains (boundaries_of l t) b ≡ true → q b ≡ true
+  pub needed : (b : ℕ) → b < 255 → sets.contains (boundaries_of l t) b ≡ true → IsNeeded b (l ∷ []) t chars

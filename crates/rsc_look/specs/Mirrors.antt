@@ -31,6 +31,6 @@ pub record EndsFirst (h : List ℕ) (i : ℕ) (cs : List ℕ) (k : ℕ) : Type 0
 -- where i is after the first k characters of a text, P says what the reversed assertion says of the text of the same
 -- characters in reverse, after all but k of them
 abbrev pub IsTextMirrored : Look → ℕ → (ℕ → Bool) → List ℕ → ℕ → Type 0 → Type 0
-IsTextMirrored l t W h i P =
+IsTextMirrored l t chars h i P =
     (cs : List ℕ) (k : ℕ) (m : List ℕ) (j : ℕ) → EndsFirst h i cs k → EndsFirst m j (reverse cs) (length cs - k)
-    → P ↔ Holds (reversed l) t W m j
+    → P ↔ Holds (reversed l) t chars m j

@@ -85,7 +85,7 @@ impl Look {
         }
     }
 
-    /// The assertion that asks of bytes what a Unicode assertion asks of characters; any other assertion itself.
+    /// The assertion that asks of bytes what a Unicode assertion asks of characters; any other assertion itself. The original lacks it.
     ///
     /// Between neighbours that are absent or below 128 the two hold at the same positions, by [`crate::laws::ascii_neighbours_suffice`]: a table
     /// over bytes answers for the Unicode assertion there.
@@ -167,7 +167,7 @@ impl Look {
         }
     }
 
-    /// The character that shows the assertion, another one for each.
+    /// The character that shows the assertion; no two share one.
     pub fn as_char(self) -> char
         ensures value { result ≡ char_of self }
         ensures distinct { (other : Look) → char_of other ≡ result → other ≡ self }

@@ -42,7 +42,7 @@ impl<W: WordClass> LookMatcher<W> {
     }
 
     /// The classes of bytes that the assertions of a list can't tell apart: those of the coarsest partition of the bytes
-    /// into intervals that keeps them all. Allocates nothing.
+    /// into intervals that keeps them all. Allocates nothing. The original lacks it.
     ///
     /// Two bytes of one class may replace each other anywhere in any haystack, and no assertion of the list changes at any
     /// position. For a Unicode assertion this holds for replacements within ASCII, and if the matcher's word characters
@@ -69,6 +69,7 @@ impl<W: WordClass> LookMatcher<W> {
     }
 
     /// The bytes at which a table over bytes must stop for the Unicode assertions of a list: all from 128 on if one is listed, and none else.
+    /// The original lacks it.
     ///
     /// Beside other bytes each assertion of the list is its [`Look::ascii_counterpart`], by [`crate::laws::ascii_neighbours_suffice`].
     ///

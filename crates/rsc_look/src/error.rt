@@ -9,7 +9,7 @@ use std::fmt;
 pub struct UnicodeWordBoundaryError(());
 
 impl UnicodeWordBoundaryError {
-    /// Whether the Unicode assertions can be asked, which is always `Ok`.
+    /// Always `Ok`: the tables are there.
     ///
     /// # Errors
     ///

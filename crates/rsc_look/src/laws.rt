@@ -20,21 +20,21 @@ use crate::{
 
 /// A list of assertions has at most one coarsest partition.
 pub fn at_most_one_coarsest()
-    ensures { (p q : ℕ → Bool) (looks : List Look) (t : ℕ) (W : ℕ → Bool) →
-        IsCoarsest p looks t W → IsCoarsest q looks t W → (b : ℕ) → b < 255 → p b ≡ q b }
+    ensures { (p q : ℕ → Bool) (looks : List Look) (t : ℕ) (chars : ℕ → Bool) →
+        IsCoarsest p looks t chars → IsCoarsest q looks t chars → (b : ℕ) → b < 255 → p b ≡ q b }
 {}
 
 /// What `classes_of` promises, over the class map alone: if two haystacks of one length have the same classes of a coarsest class map at each position,
 /// each listed assertion holds at the same positions of both; a Unicode one only if they differ in ASCII alone.
 pub fn same_classes_change_nothing()
-    ensures bytes { (m : List ℕ) (looks : List Look) (t : ℕ) (W : ℕ → Bool) → IsCoarsestMap m looks t W →
+    ensures bytes { (m : List ℕ) (looks : List Look) (t : ℕ) (chars : ℕ → Bool) → IsCoarsestMap m looks t chars →
         (l : Look) → Contains looks l → is_unicode l ≡ false → (h k : List ℕ) → IsHaystack h → IsHaystack k → length h ≡ length k →
         ((i : ℕ) → i < length h → slice_index m (slice_index h i) ≡ slice_index m (slice_index k i)) →
-        (i : ℕ) → i ≤ length h → Holds l t W h i ↔ Holds l t W k i }
-    ensures characters { (m : List ℕ) (looks : List Look) (t : ℕ) (W : ℕ → Bool) → IsCoarsestMap m looks t W →
+        (i : ℕ) → i ≤ length h → Holds l t chars h i ↔ Holds l t chars k i }
+    ensures characters { (m : List ℕ) (looks : List Look) (t : ℕ) (chars : ℕ → Bool) → IsCoarsestMap m looks t chars →
         (l : Look) → Contains looks l → is_unicode l ≡ true → (h k : List ℕ) → IsHaystack h → IsHaystack k → length h ≡ length k →
         ((i : ℕ) → i < length h → slice_index m (slice_index h i) ≡ slice_index m (slice_index k i)) → DifferInAscii h k →
-        (i : ℕ) → i ≤ length h → Holds l t W h i ↔ Holds l t W k i }
+        (i : ℕ) → i ≤ length h → Holds l t chars h i ↔ Holds l t chars k i }
 {
     rsc_alphabet::laws::one_class_is_together();
 }
@@ -43,40 +43,40 @@ pub fn same_classes_change_nothing()
 /// agree with ASCII: what [`crate::LookMatcher::add_to_byteset`] says of the set that it leaves.
 #[tactic(auto, using(crate::proofs::KeepingLemmas::IsExactFor_own))]
 pub fn boundaries_are_exact()
-    ensures { (l : Look) (t : ℕ) (W : ℕ → Bool) → (is_unicode l ≡ true → AgreesWithAscii W) → IsExactFor (sets.contains (boundaries_of l t)) l t W }
+    ensures { (l : Look) (t : ℕ) (chars : ℕ → Bool) → (is_unicode l ≡ true → AgreesWithAscii chars) → IsExactFor (sets.contains (boundaries_of l t)) l t chars }
 {}
 
 /// A partition that keeps two lists keeps the one after the other, and it keeps the empty list.
 pub fn kept_lists_are_joined()
-    ensures none { (p : ℕ → Bool) (t : ℕ) (W : ℕ → Bool) → Keeps p [] t W }
-    ensures both { (p : ℕ → Bool) (some others : List Look) (t : ℕ) (W : ℕ → Bool) →
-        Keeps p some t W → Keeps p others t W → Keeps p (some ++ others) t W }
+    ensures none { (p : ℕ → Bool) (t : ℕ) (chars : ℕ → Bool) → Keeps p [] t chars }
+    ensures both { (p : ℕ → Bool) (some others : List Look) (t : ℕ) (chars : ℕ → Bool) →
+        Keeps p some t chars → Keeps p others t chars → Keeps p (some ++ others) t chars }
 {}
 
 /// A partition with the boundaries of one that keeps a list keeps it too. The coarsest partition of two lists together has the boundaries of the
 /// coarsest of each, and no others.
 pub fn coarsest_lists_are_joined()
-    ensures finer { (p q : ℕ → Bool) (looks : List Look) (t : ℕ) (W : ℕ → Bool) →
-        HasBoundariesOf q p → Keeps p looks t W → Keeps q looks t W }
-    ensures both { (p q : ℕ → Bool) (some others : List Look) (t : ℕ) (W : ℕ → Bool) →
-        IsCoarsest p some t W → IsCoarsest q others t W → IsCoarsest (λ b. p b || q b) (some ++ others) t W }
+    ensures finer { (p q : ℕ → Bool) (looks : List Look) (t : ℕ) (chars : ℕ → Bool) →
+        HasBoundariesOf q p → Keeps p looks t chars → Keeps q looks t chars }
+    ensures both { (p q : ℕ → Bool) (some others : List Look) (t : ℕ) (chars : ℕ → Bool) →
+        IsCoarsest p some t chars → IsCoarsest q others t chars → IsCoarsest (λ b. p b || q b) (some ++ others) t chars }
 {}
 
 /// A position has exactly one side before it, and exactly one after it.
 pub fn each_position_has_two_sides()
-    ensures before { (W : ℕ → Bool) (h : List ℕ) (i : ℕ) → (s : Side) × IsBefore W h i s }
-    ensures one_before { (W : ℕ → Bool) (h : List ℕ) (i : ℕ) (s u : Side) → IsBefore W h i s → IsBefore W h i u → s ≡ u }
-    ensures after { (W : ℕ → Bool) (h : List ℕ) (i : ℕ) → i ≤ length h → (s : Side) × IsAfter W h i s }
-    ensures one_after { (W : ℕ → Bool) (h : List ℕ) (i : ℕ) (s u : Side) → IsAfter W h i s → IsAfter W h i u → s ≡ u }
+    ensures before { (chars : ℕ → Bool) (h : List ℕ) (i : ℕ) → (s : Side) × IsBefore chars h i s }
+    ensures one_before { (chars : ℕ → Bool) (h : List ℕ) (i : ℕ) (s u : Side) → IsBefore chars h i s → IsBefore chars h i u → s ≡ u }
+    ensures after { (chars : ℕ → Bool) (h : List ℕ) (i : ℕ) → i ≤ length h → (s : Side) × IsAfter chars h i s }
+    ensures one_after { (chars : ℕ → Bool) (h : List ℕ) (i : ℕ) (s u : Side) → IsAfter chars h i s → IsAfter chars h i u → s ≡ u }
 {}
 
 /// Between neighbours that are absent or below 128, a Unicode assertion holds exactly where its ASCII counterpart does, if the word characters
 /// below 128 are the word bytes. So a table over bytes that stops at a byte from 128 on answers for Unicode assertions too.
 #[tactic(auto, using(crate::proofs::MatcherLemmas::ascii_suffices))]
 pub fn ascii_neighbours_suffice()
-    ensures { (l : Look) (t : ℕ) (W : ℕ → Bool) (h : List ℕ) (i : ℕ) → i ≤ length h → AgreesWithAscii W →
+    ensures { (l : Look) (t : ℕ) (chars : ℕ → Bool) (h : List ℕ) (i : ℕ) → i ≤ length h → AgreesWithAscii chars →
         IfSome (byte_before h i) (λ b. b < 128) → IfSome (byte_after h i) (λ b. b < 128) →
-        Holds l t W h i ↔ Holds (ascii_of l) t W h i }
+        Holds l t chars h i ↔ Holds (ascii_of l) t chars h i }
 {}
 
 /// Below 128 the word characters of [`AsciiWord`] and of [`UnicodeWord`] are the word bytes, which is what

@@ -140,7 +140,7 @@ impl LookSet {
     #[tactic(auto, using(crate::proofs::LookSetLayoutLemmas::some_exact))]
     #[inline]
     pub fn from_bits(bits: u32) -> Option<LookSet>
-        ensures exact { (set : Looks) → (result ≡ Some set) ↔ (bits_of set ≡ bits) }
+        ensures value { (set : Looks) → (result ≡ Some set) ↔ (bits_of set ≡ bits) }
         ensures none { IsNone result ↔ (2 ^ 18 ≤ bits) }
     {
         if bits <= ALL_BITS {
@@ -197,7 +197,7 @@ impl LookSet {
         self.bits & look.as_repr() != 0
     }
 
-    /// Whether each member is a member of another set too.
+    /// Whether each member is a member of another set too. The original lacks it.
     ///
     /// With [`LookMatcher::holding`](crate::LookMatcher::holding) it tells whether all of them hold at a position.
     ///
@@ -226,7 +226,7 @@ impl LookSet {
         LookSetIter { set: self }
     }
 
-    /// The set with an assertion as one more member.
+    /// The set with an assertion added.
     #[tactic(auto, using(crate::proofs::LookSetLayoutLemmas::looks_of_insert, crate::proofs::LookSetLayoutLemmas::union_fits, crate::proofs::LookSetLayoutLemmas::repr_of_lt, crate::proofs::LookSetsLemmas::grown_by, crate::proofs::LookSetsLemmas::grown_apart))]
     #[inline]
     pub fn insert(self, look: Look) -> LookSet
@@ -239,7 +239,7 @@ impl LookSet {
         }
     }
 
-    /// Makes an assertion a member.
+    /// Adds an assertion.
     #[inline]
     pub fn set_insert(&mut self, look: Look)
         ensures value { self.new ≡ sets.insert self.old look }
@@ -262,7 +262,7 @@ impl LookSet {
         }
     }
 
-    /// Makes an assertion no member.
+    /// Removes an assertion from the set.
     #[inline]
     pub fn set_remove(&mut self, look: Look)
         ensures value { self.new ≡ sets.remove self.old look }
@@ -284,7 +284,7 @@ impl LookSet {
         }
     }
 
-    /// Takes the members of another set out.
+    /// Removes another set's members.
     #[inline]
     pub fn set_subtract(&mut self, other: LookSet)
         ensures value { self.new ≡ sets.difference self.old other }
@@ -335,7 +335,7 @@ impl LookSet {
         *self = self.intersect(other);
     }
 
-    /// Whether the members can be asked, which is always `Ok`: the tables of word characters are always there.
+    /// Always `Ok`: the tables of word characters are there.
     ///
     /// # Errors
     ///

@@ -92,7 +92,7 @@ impl<W: WordClass> LookMatcher<W> {
     #[inline]
     pub fn set_line_terminator(&mut self, byte: u8) -> &mut Self
         ensures value { result.now ≡ (byte, self.old.1) }
-        ensures same { result.ghost_name ≡ self.entry.ghost_name }
+        ensures returned { result.ghost_name ≡ self.entry.ghost_name }
     {
         self.line_terminator = byte;
         self
@@ -114,7 +114,7 @@ impl<W: WordClass> LookMatcher<W> {
     #[inline(always)]
     pub fn matches(&self, look: Look, haystack: &[u8], at: usize) -> bool
         requires { at ≤ length haystack.now }
-        ensures holds { IsTrue result ↔ HoldsFor W.word_chars look self.now haystack.now at }
+        ensures value { IsTrue result ↔ HoldsFor W.word_chars look self.now haystack.now at }
         ensures bytes { is_unicode look ≡ false →
             result ≡ holds_at_bytes look self.now.0 (byte_before haystack.now at) (byte_after haystack.now at) }
         ensures inside { is_unicode look ≡ true → IsInside haystack.now at → result ≡ false }

@@ -15,7 +15,7 @@ use Rattle.rsc_nfa.specs.declared.state.State.{State}
 use Rattle.rsc_nfa.specs.declared.state.State.TheVariants.{ByteRange, Assert, Fork, Capture, Accept}
 use Rattle.rsc_nfa.specs.Classes.{boundaries_of_states, asks_characters, has_unicode, asserts, IsFiner, KeepsRuns, AreInterchangedBy}
 use Rattle.rsc_nfa.specs.Steps.{is_capture_of, or_earlier, recorded}
-use Rattle.rsc_nfa.specs.StepsLayout.{slot_recorded, put_offset}
+use Rattle.rsc_nfa.specs.RecordsLayout.{slot_recorded, put_offset}
 use Rattle.rsc_nfa.proofs.ClassesLemmas.{OneClassIsTogether, HasBoundariesOfStates, HasBoundariesOfStates-from}
 
 -- ---- more boundaries
@@ -44,9 +44,10 @@ finer_from p q finer of_p of_q is has = record {
 }
 
 -- and a finer map keeps the runs
-pub finer_keeps : (classes finer : List ℕ) (states : List State) (t : ℕ) (W : ℕ → Bool) → KeepsRuns classes states t W → IsFiner finer classes
-    → KeepsRuns finer states t W
-finer_keeps classes finer states t W keeps is = record { kept = λ h k same. keeps.kept h k (coarser h k same) }
+pub finer_keeps : (classes finer : List ℕ) (states : List State) (t : ℕ) (chars : ℕ → Bool) → KeepsRuns classes states t chars
+    → IsFiner finer classes
+    → KeepsRuns finer states t chars
+finer_keeps classes finer states t chars keeps is = record { kept = λ h k same. keeps.kept h k (coarser h k same) }
   where
     coarser : (h k : List ℕ) → AreInterchangedBy finer (has_unicode states) h k → AreInterchangedBy classes (has_unicode states) h k
     coarser h k same = record {
@@ -123,11 +124,13 @@ abbrev pub HasRecorded : List State → List (ℕ × ℕ) → List (Option ℕ) 
 HasRecorded states run offsets = (slot : ℕ) → slot < length offsets → get_or offsets slot None ≡ recorded states run slot
 
 put_at : (offsets : List (Option ℕ)) (state : Option State) (at slot : ℕ) → slot < length offsets
-    → get_or (put_offset offsets (slot_recorded state) at) slot None ≡ or_earlier (cond (is_capture_of slot state) (Some at) None) (get_or offsets slot None)
+    → get_or (put_offset offsets (slot_recorded state) at) slot None
+    ≡ or_earlier (cond (is_capture_of slot state) (Some at) None) (get_or offsets slot None)
 put_at offsets (Some (Capture c next)) at slot l = go (nat_eq c slot) refl
   where
     go : (b : Bool) → nat_eq c slot ≡ b
-        → get_or (cond (nat_lt c (length offsets)) (set offsets c (Some at)) offsets) slot None ≡ or_earlier (cond b (Some at) None) (get_or offsets slot None)
+        → get_or (cond (nat_lt c (length offsets)) (set offsets c (Some at)) offsets) slot None
+        ≡ or_earlier (cond b (Some at) None) (get_or offsets slot None)
     go true e =
         let same : c ≡ slot = grind (arith, nat_tests) in
         let here : nat_lt c (length offsets) ≡ true = grind (arith, nat_tests) in

@@ -6,11 +6,11 @@ ghost use Rattle.rsc_alphabet.specs.Partitions.{LastClassIsGreatest, class_map};
 ghost use Rattle.rsc_look.specs.Keeping.{AgreesWithAscii};
 ghost use Rattle.rsc_nfa.specs.Automata.{Automaton};
 ghost use Rattle.rsc_nfa.specs.Classes.{IsOrdered, IsFiner, asserts, boundaries_of_state, boundaries_of_states, has_unicode, KeepsRuns, IsEachNeeded, HasNoSpareBoundary};
-ghost use Rattle.rsc_nfa.specs.Faults.{target_fault, fault_of_state, AreFaultless, IsFirstFaulty};
+ghost use Rattle.rsc_nfa.specs.StateFaults.{target_fault, fault_of_state, AreFaultless, IsFirstFaulty};
 ghost use Rattle.rsc_look.specs.declared.assertion.Look.{Look};
 ghost use Rattle.rsc_look.specs.LookSets.{has_one_of, unicode_word_assertions};
 ghost use Rattle.rsc_nfa.specs.Steps.{IsStep, IsRun, IsWithin, recorded};
-ghost use Rattle.rsc_nfa.specs.StepsLayout.{put_offset, slot_recorded};
+ghost use Rattle.rsc_nfa.specs.RecordsLayout.{put_offset, slot_recorded};
 ghost use Rattle.rsc_nfa.specs.declared.error.BuildError.TheVariants.{OutOfMemory};
 
 use crate::{BuildError, State};
@@ -63,7 +63,7 @@ impl<W: WordClass, A: Allocator> Drop for Nfa<W, A> {
 
 impl<W: WordClass, A: Allocator> Model for Nfa<W, A> {
     ghost use Rattle.rsc_nfa.specs.Automata.{Automaton};
-    ghost use Rattle.rsc_nfa.specs.Faults.{AreFaultless};
+    ghost use Rattle.rsc_nfa.specs.StateFaults.{AreFaultless};
 
     ghost Value = { Automaton W };
 
@@ -207,26 +207,28 @@ impl<W: WordClass, A: Allocator + Clone + Drop> Nfa<W, A> {
     /// The states, each numbered by its index.
     #[inline]
     pub fn states(&self) -> &[State]
-        ensures states { result.now ≡ self.now.states }
+        ensures value { result.now ≡ self.now.states }
         ensures faultless { AreFaultless self.now.groups self.now.states }
     {
         &self.states
     }
 
-    /// The groups that the slots and the patterns of the states are of.
+    /// The groups to which the states' slots and patterns belong.
     #[inline]
     pub fn group_info(&self) -> &GroupInfo<A>
-        ensures groups { result.now ≡ self.now.groups }
+        ensures value { result.now ≡ self.now.groups }
         ensures faultless { AreFaultless self.now.groups self.now.states }
     {
+        // No wrong body: nothing else of its type is at hand.
         &self.group_info
     }
 
-    /// The matcher that the assertions of the states are asked of.
+    /// The matcher that tests the states' assertions.
     #[inline]
     pub fn matcher(&self) -> &LookMatcher<W>
         ensures { result.now ≡ self.now.matcher }
     {
+        // No wrong body: nothing else of its type is at hand.
         &self.matcher
     }
 
@@ -413,9 +415,9 @@ impl<W: WordClass, A: Allocator + Clone + Drop> Nfa<W, A> {
     /// ```
     pub fn record(&self, run: &[(StateID, usize)], captures: &mut Captures<A>)
         requires { All (λ place. place.1 < usize.MAX) run.now }
-        ensures groups { captures.new.groups ≡ captures.old.groups }
-        ensures pattern { captures.new.pattern ≡ captures.old.pattern }
-        ensures slots { length captures.new.offsets ≡ length captures.old.offsets }
+        ensures kept_groups { captures.new.groups ≡ captures.old.groups }
+        ensures kept_pattern { captures.new.pattern ≡ captures.old.pattern }
+        ensures kept_slots { length captures.new.offsets ≡ length captures.old.offsets }
         ensures records { (slot : ℕ) → slot < length captures.old.offsets →
             slice_index_or captures.new.offsets slot None ≡ recorded self.now.states run.now slot }
     {

@@ -51,7 +51,8 @@ module _ {E X : Type 0} (f : E → Option X) where
 module _ {E X Y : Type 0} (f : E → Option X) (v : Y → X) where
   -- one more text is read
   pub all_there-one : (xs : List E) (k : ℕ) (d : E) (ys : List Y) (y : Y) → k < length xs
-      → all_there (map f (take k xs)) ≡ Some (map v ys) → Some (v y) ≡ f (get_or xs k d) → all_there (map f (take (k + 1) xs)) ≡ Some (map v (ys ++ y ∷ []))
+      → all_there (map f (take k xs)) ≡ Some (map v ys) → Some (v y) ≡ f (get_or xs k d)
+      → all_there (map f (take (k + 1) xs)) ≡ Some (map v (ys ++ y ∷ []))
   all_there-one xs k d ys y l e h =
       ap all_there (map_more f xs k d l ∙ ap (λ o. map f (take k xs) ++ o ∷ []) (sym h)) ∙ all_there-append (map f (take k xs)) (v y)
       ∙ ap (option_map (λ zs. zs ++ v y ∷ [])) e ∙ ap Some (sym (map-append v ys (y ∷ [])))

@@ -19,7 +19,8 @@ tabled width texts lengths b = take (get_or lengths b 0) (drop (width * b) texts
 
 -- the text of a byte is in the table, tested at each byte
 pub tabled_is : (width : ℕ) (texts lengths : List ℕ) (text : ℕ → List ℕ)
-    → map (tabled width texts lengths) (range_with_len 0 256) ≡ map text (range_with_len 0 256) → (b : ℕ) → b < 256 → tabled width texts lengths b ≡ text b
+    → map (tabled width texts lengths) (range_with_len 0 256) ≡ map text (range_with_len 0 256) → (b : ℕ) → b < 256
+    → tabled width texts lengths b ≡ text b
 tabled_is width texts lengths text same b low =
     sym (get_or-map-range_with_len (tabled width texts lengths) 0 256 b b [] low (omega arith)) ∙ ap (λ t. get_or t b []) same
     ∙ get_or-map-range_with_len text 0 256 b b [] low (omega arith)
@@ -51,7 +52,8 @@ pub past_ascii-high : (c : ℕ) → is_ascii c ≡ false → 128 ≤ c
 past_ascii-high c e = grind (arith, nat_tests)
 
 -- after a part of a list is written, its front up to an index within the part
-pub take-put_mid-front : (a k n : ℕ) (xs ys : List ℕ) → n ≤ length ys → a ≤ length xs → take (a + n) (put_mid a k xs ys) ≡ take a xs ++ take n ys
+pub take-put_mid-front : (a k n : ℕ) (xs ys : List ℕ) → n ≤ length ys → a ≤ length xs
+    → take (a + n) (put_mid a k xs ys) ≡ take a xs ++ take n ys
 take-put_mid-front a k n xs ys p q =
     sym (take-take (a + n) (a + length ys) (put_mid a k xs ys) (omega arith)) ∙ ap (take (a + n)) (take-put_mid a k xs ys (a + length ys) refl q)
     ∙ ap (λ m. take (m + n) (take a xs ++ ys)) (sym (length-take-le a xs q)) ∙ take-append-add (take a xs) ys n

@@ -8,7 +8,8 @@ abbrev Says : Option ℕ → (ℕ → Type 0) → Type 0
 Says r is = MatchOption r ((n : ℕ) → is n → ⊥) is
 
 -- an answer about four bytes says the same of those of a list that they are
-pub says_of : (r : Option ℕ) (P : ℕ → ℕ → ℕ → ℕ → ℕ → Type 0) {a b c d v w x y : ℕ} → v ≡ a → w ≡ b → x ≡ c → y ≡ d → Says r (P a b c d) → Says r (P v w x y)
+pub says_of : (r : Option ℕ) (P : ℕ → ℕ → ℕ → ℕ → ℕ → Type 0) {a b c d v w x y : ℕ} → v ≡ a → w ≡ b → x ≡ c → y ≡ d
+    → Says r (P a b c d) → Says r (P v w x y)
 says_of r P {a} {b} {c} {d} {v} {w} {x} {y} e f g h s =
     subst (λ t. Says r (P t w x y)) (sym e)
     (subst (λ t. Says r (P a t x y)) (sym f) (subst (λ t. Says r (P a b t y)) (sym g) (subst (λ t. Says r (P a b c t)) (sym h) s)))

@@ -61,7 +61,8 @@ back before e c p =
 back_of : (last rest : List ℕ) (c : ℕ) → Encodes (reverse last) c → EndsAt (reverse (last ++ rest)) (length (reverse (last ++ rest))) c
 back_of last rest c p = rw (reverse-append last rest) (back (reverse rest) (reverse last) c p)
 
-long_back : (r : List ℕ) (c : ℕ) → EndsLongNumber (get_or r 3 0) (get_or r 2 0) (get_or r 1 0) (get_or r 0 0) c → EndsAt (reverse r) (length (reverse r)) c
+long_back : (r : List ℕ) (c : ℕ) → EndsLongNumber (get_or r 3 0) (get_or r 2 0) (get_or r 1 0) (get_or r 0 0) c
+    → EndsAt (reverse r) (length (reverse r)) c
 long_back (d ∷ x ∷ r) c (inl s) = back_of (d ∷ x ∷ []) r c s
 long_back (d ∷ x ∷ b ∷ r) c (inr (inl s)) = back_of (d ∷ x ∷ b ∷ []) r c s
 long_back (d ∷ x ∷ b ∷ a ∷ r) c (inr (inr s)) = back_of (d ∷ x ∷ b ∷ a ∷ []) r c s

@@ -17,10 +17,12 @@ BeginsAt-drop h s j c e =
     (j - s, record { ordered = omega arith; within = simp length-drop (omega (arith, e.ordered, e.within)); encoded = rw slice_from_start e.encoded })
 
 -- what an answer of `decode` says, for a reader that takes it apart
-pub DecodesTo-ok : (h : List ℕ) (r : Option (Result ℕ ℕ)) (f : Result ℕ ℕ) (c : ℕ) → DecodesTo h r → r ≡ Some f → f ≡ Ok c → BeginsAt h 0 c
+pub DecodesTo-ok : (h : List ℕ) (r : Option (Result ℕ ℕ)) (f : Result ℕ ℕ) (c : ℕ) → DecodesTo h r → r ≡ Some f → f ≡ Ok c
+    → BeginsAt h 0 c
 DecodesTo-ok h r f c p e q = rw (e, q) at p
 
-pub DecodesTo-err : (h : List ℕ) (r : Option (Result ℕ ℕ)) (f : Result ℕ ℕ) (b : ℕ) → DecodesTo h r → r ≡ Some f → f ≡ Err b → (c : ℕ) → BeginsAt h 0 c → ⊥
+pub DecodesTo-err : (h : List ℕ) (r : Option (Result ℕ ℕ)) (f : Result ℕ ℕ) (b : ℕ) → DecodesTo h r → r ≡ Some f → f ≡ Err b
+    → (c : ℕ) → BeginsAt h 0 c → ⊥
 DecodesTo-err h r f b p e q = (rw (e, q) at p).1
 
 -- ---- a part of a list has the characters of the whole
@@ -143,7 +145,8 @@ BeginsAt-with_prefix e t k b =
 char_boundary_behind : (e t : List ℕ) (k : ℕ) → IsCharBoundary (e ++ t) (length e + k) → IsCharBoundary t k
 char_boundary_behind e t k b = grind (arith, length-append e t, get_or-append-add e t k 0)
 
-first_encoded : (e t : List ℕ) (c i : ℕ) → Encodes e c → ((k : ℕ) → IsCharBoundary t k → BeginsOrEnds t k) → IsCharBoundary (e ++ t) i → BeginsOrEnds (e ++ t) i
+first_encoded : (e t : List ℕ) (c i : ℕ) → Encodes e c → ((k : ℕ) → IsCharBoundary t k → BeginsOrEnds t k) → IsCharBoundary (e ++ t) i
+    → BeginsOrEnds (e ++ t) i
 first_encoded e t c zero p later b = inl (c, (length e, with_suffix e t c p))
 first_encoded e t c (suc i) p later b =
     ⊎_elim

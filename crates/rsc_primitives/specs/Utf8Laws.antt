@@ -28,7 +28,8 @@ Encodes-same (a ∷ b ∷ c ∷ d ∷ []) n m h k = grind arith
 Encodes-same _ n m h k = grind arith
 
 -- a character below 128 is its one byte, and the bytes of any other are 128 and more
-pub Encodes-size : (e : List ℕ) (n : ℕ) → Encodes e n → ((length e ≡ 1) × (get_or e 0 0 ≡ n) × (n < 128)) ⊎ ((128 ≤ n) × (128 ≤ get_or e 0 0))
+pub Encodes-size : (e : List ℕ) (n : ℕ) → Encodes e n → ((length e ≡ 1) × (get_or e 0 0 ≡ n) × (n < 128))
+    ⊎ ((128 ≤ n) × (128 ≤ get_or e 0 0))
 Encodes-size (a ∷ b ∷ c ∷ d ∷ []) n h = grind arith
 Encodes-size _ n h = grind arith
 
@@ -127,14 +128,16 @@ slice_one k i j one w =
 one_byte : (k : List ℕ) (i j : ℕ) → j ≡ i + 1 → i < length k → get_or k i 0 < 128 → Encodes (slice_range k i j) (get_or k i 0)
 one_byte k i j one w low = subst (λ (x : List ℕ). Encodes x (get_or k i 0)) (sym (slice_one k i j one w)) (omega arith, refl)
 
-same_slice : (h k : List ℕ) (i j : ℕ) → AgreePastAscii h k → IsExtent h i j → length (slice_range h i j) ≡ j - i → length (slice_range k i j) ≡ j - i
+same_slice : (h k : List ℕ) (i j : ℕ) → AgreePastAscii h k → IsExtent h i j → length (slice_range h i j) ≡ j - i
+    → length (slice_range k i j) ≡ j - i
     → 128 ≤ get_or h i 0 → slice_range h i j ≡ slice_range k i j
 same_slice h k i j s p l lk big =
     ext_get_or 0 (slice_range h i j) (slice_range k i j) (l ∙ sym lk)
     (λ n q.
     let here : n < j - i = omega arith in
     let high : 128 ≤ get_or h (i + n) 0 =
-    ⊎_elim (λ (z : n < 1). let e : i ≡ i + n = omega arith in rw e at big) (λ (z : 1 ≤ n). (p.rest (i + n) (omega arith) (omega arith)).0) (cases_lt n 1) in
+    ⊎_elim (λ (z : n < 1). let e : i ≡ i + n = omega arith in rw e at big) (λ (z : 1 ≤ n). (p.rest (i + n) (omega arith) (omega arith)).0)
+    (cases_lt n 1) in
     let same : get_or h (i + n) 0 ≡ get_or k (i + n) 0 =
     ⊎_elim (λ e. e) (λ low. absurd (omega (arith, low.0))) (s.each (i + n) (omega (arith, p.within))) in
     get_or-slice h i j n here ∙ same ∙ sym (get_or-slice k i j n here))
@@ -260,8 +263,10 @@ EncodedFrom-position (c ∷ cs) (suc k) s l =
     sym (length-append (encode_utf8 c) (encode_utf8_all (take (suc k) cs))) in
     rw (← p, ← q) (with_prefix (encode_utf8 c) (encode_utf8_all cs) (position cs k) (position cs (suc k)) (get_or cs k 0) r)
 
-pub BeginsAt-position : (cs : List ℕ) (k : ℕ) → all_scalars cs ≡ true → k < length cs → BeginsAt (encode_utf8_all cs) (position cs k) (get_or cs k 0)
+pub BeginsAt-position : (cs : List ℕ) (k : ℕ) → all_scalars cs ≡ true → k < length cs
+    → BeginsAt (encode_utf8_all cs) (position cs k) (get_or cs k 0)
 BeginsAt-position cs k s l = (position cs (suc k), EncodedFrom-position cs k s l)
 
-pub EndsAt-position : (cs : List ℕ) (k : ℕ) → all_scalars cs ≡ true → k < length cs → EndsAt (encode_utf8_all cs) (position cs (suc k)) (get_or cs k 0)
+pub EndsAt-position : (cs : List ℕ) (k : ℕ) → all_scalars cs ≡ true → k < length cs
+    → EndsAt (encode_utf8_all cs) (position cs (suc k)) (get_or cs k 0)
 EndsAt-position cs k s l = (position cs k, EncodedFrom-position cs k s l)

@@ -35,7 +35,7 @@ impl<'a> fmt::Debug for DebugHaystack<'a> {
     }
 }
 
-/// The text that [`DebugByte`] shows.
+/// The text that [`DebugByte`] shows. The original lacks it.
 ///
 /// # Errors
 ///
@@ -54,7 +54,7 @@ pub fn byte_text<A: Allocator + Drop>(alloc: A, byte: u8) -> Result<String<A>, A
     String::from_str(alloc, text_of_byte(byte))
 }
 
-/// The text that [`DebugHaystack`] shows.
+/// The text that [`DebugHaystack`] shows. The original lacks it.
 ///
 /// The contract speaks of bytes that encode no character past ASCII; such a character is shown as by std's `escape_debug`.
 ///

@@ -43,7 +43,7 @@ pub fn le_bytes_round_trip()
 {}
 
 /// Equality of indices, of their refusals and of [`NonMaxUsize`] is that of the numbers.
-pub fn equality_is_of_the_number()
+pub fn equality_is_of_the_value()
     ensures small_index { (a b : ℕ) → ⟦<SmallIndex as PartialEq>⟧.eq a b ≡ (a == b) }
     ensures pattern_id { (a b : ℕ) → ⟦<PatternID as PartialEq>⟧.eq a b ≡ (a == b) }
     ensures state_id { (a b : ℕ) → ⟦<StateID as PartialEq>⟧.eq a b ≡ (a == b) }
@@ -69,34 +69,30 @@ pub fn hash_is_of_the_number()
     ensures non_max { (a : ℕ) → ⟦<NonMaxUsize as Hash>⟧.hash_input a ≡ fed.usize a }
 {}
 
-/// A clone has its source's value.
-pub fn clones_are_equal()
+/// A clone is its source, and none is refused.
+pub fn clones_are_their_sources()
     ensures small_index { (a b : ℕ) → ⟦<SmallIndex as Clone>⟧.is_clone a b → b ≡ a }
+    ensures small_index_accepted { (a : ℕ) → ⟦<SmallIndex as Clone>⟧.is_infallible a }
     ensures pattern_id { (a b : ℕ) → ⟦<PatternID as Clone>⟧.is_clone a b → b ≡ a }
+    ensures pattern_id_accepted { (a : ℕ) → ⟦<PatternID as Clone>⟧.is_infallible a }
     ensures state_id { (a b : ℕ) → ⟦<StateID as Clone>⟧.is_clone a b → b ≡ a }
+    ensures state_id_accepted { (a : ℕ) → ⟦<StateID as Clone>⟧.is_infallible a }
     ensures small_index_error { (a b : ℕ) → ⟦<SmallIndexError as Clone>⟧.is_clone a b → b ≡ a }
+    ensures small_index_error_accepted { (a : ℕ) → ⟦<SmallIndexError as Clone>⟧.is_infallible a }
     ensures pattern_id_error { (a b : ℕ) → ⟦<PatternIDError as Clone>⟧.is_clone a b → b ≡ a }
+    ensures pattern_id_error_accepted { (a : ℕ) → ⟦<PatternIDError as Clone>⟧.is_infallible a }
     ensures state_id_error { (a b : ℕ) → ⟦<StateIDError as Clone>⟧.is_clone a b → b ≡ a }
+    ensures state_id_error_accepted { (a : ℕ) → ⟦<StateIDError as Clone>⟧.is_infallible a }
     ensures small_index_iter { (a b : List ℕ) → ⟦<SmallIndexIter as Clone>⟧.is_clone a b → b ≡ a }
+    ensures small_index_iter_accepted { (a : List ℕ) → ⟦<SmallIndexIter as Clone>⟧.is_infallible a }
     ensures pattern_id_iter { (a b : List ℕ) → ⟦<PatternIDIter as Clone>⟧.is_clone a b → b ≡ a }
+    ensures pattern_id_iter_accepted { (a : List ℕ) → ⟦<PatternIDIter as Clone>⟧.is_infallible a }
     ensures state_id_iter { (a b : List ℕ) → ⟦<StateIDIter as Clone>⟧.is_clone a b → b ≡ a }
+    ensures state_id_iter_accepted { (a : List ℕ) → ⟦<StateIDIter as Clone>⟧.is_infallible a }
     ensures non_max { (a b : ℕ) → ⟦<NonMaxUsize as Clone>⟧.is_clone a b → b ≡ a }
+    ensures non_max_accepted { (a : ℕ) → ⟦<NonMaxUsize as Clone>⟧.is_infallible a }
     ensures debug_byte { (a b : ADebugByte) → ⟦<DebugByte as Clone>⟧.is_clone a b → b ≡ a }
-{}
-
-/// No clone is refused.
-pub fn clones_are_accepted()
-    ensures small_index { (a : ℕ) → ⟦<SmallIndex as Clone>⟧.is_infallible a }
-    ensures pattern_id { (a : ℕ) → ⟦<PatternID as Clone>⟧.is_infallible a }
-    ensures state_id { (a : ℕ) → ⟦<StateID as Clone>⟧.is_infallible a }
-    ensures small_index_error { (a : ℕ) → ⟦<SmallIndexError as Clone>⟧.is_infallible a }
-    ensures pattern_id_error { (a : ℕ) → ⟦<PatternIDError as Clone>⟧.is_infallible a }
-    ensures state_id_error { (a : ℕ) → ⟦<StateIDError as Clone>⟧.is_infallible a }
-    ensures small_index_iter { (a : List ℕ) → ⟦<SmallIndexIter as Clone>⟧.is_infallible a }
-    ensures pattern_id_iter { (a : List ℕ) → ⟦<PatternIDIter as Clone>⟧.is_infallible a }
-    ensures state_id_iter { (a : List ℕ) → ⟦<StateIDIter as Clone>⟧.is_infallible a }
-    ensures non_max { (a : ℕ) → ⟦<NonMaxUsize as Clone>⟧.is_infallible a }
-    ensures debug_byte { (a : ADebugByte) → ⟦<DebugByte as Clone>⟧.is_infallible a }
+    ensures debug_byte_accepted { (a : ADebugByte) → ⟦<DebugByte as Clone>⟧.is_infallible a }
 {}
 
 /// The default of an index is 0.

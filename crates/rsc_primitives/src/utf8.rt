@@ -76,8 +76,8 @@ pub fn is_boundary(bytes: &[u8], at: usize) -> bool
 /// ```
 #[inline(always)]
 pub fn decode(bytes: &[u8]) -> Option<Result<char, u8>>
-    ensures answer { DecodesTo bytes.now result }
-    ensures width { IfSome result (λ step. IfOk step (λ c. len_utf8 c ≤ length bytes.now)) }
+    ensures value { DecodesTo bytes.now result }
+    ensures within { IfSome result (λ step. IfOk step (λ c. len_utf8 c ≤ length bytes.now)) }
 {
     let first = *bytes.first()?;
     match first_char(bytes) {

@@ -13,7 +13,7 @@ use Rattle.rsc_engine.specs.PreferredWays.{IsPreferredWay}
 use Rattle.rsc_engine.specs.GroupNumbers.{as_whole}
 use Rattle.rsc_engine.specs.Ways.{last_in}
 use Rattle.rsc_engine.specs.PatternMatches.{HasSlotsOf}
-use Rattle.rsc_engine.specs.OnePattern.{IsMatchOfOne, IsWayOfOne, IsPassedOfOne, IsNextOfOne, IsOverOfOne}
+use Rattle.rsc_engine.specs.OnePattern.{IsMatchOfOne, IsWayOfOne, IsLeftOutOfOne, IsNextOfOne, IsOverOfOne}
 use Rattle.rsc_replace.specs.Replacements.{MatchWith, AreAllWith, with_matches_filled}
 use Rattle.rsc_replace.specs.PartReplacements.{Way, captures_of, match_of_way, IsNextWay, AreAllWays, IsPartReplaced}
 use Rattle.rsc_replace.proofs.ReplacementsLemmas.{same_list, same_captures}
@@ -27,7 +27,8 @@ pub record AreWays {W : Type 0} (chars : W → ℕ → Bool) (program : Compiled
   pub lists : program.automaton.groups ≡ groups ∷ []
   pub some : 0 < length groups
   pub ways : (from : ℕ) (last : Option ℕ) (captures : Captured) (found : Matched)
-      → IsNextMatch (search_in chars program (rest_of x.haystack from)) last captures found → IsMatchOfOne x p groups (rest_of x.haystack from) captures found
+      → IsNextMatch (search_in chars program (rest_of x.haystack from)) last captures found
+      → IsMatchOfOne x p groups (rest_of x.haystack from) captures found
   pub next : (from : ℕ) (last : Option ℕ) (captures : Captured) (found : Matched)
       → IsNextMatch (search_in chars program (rest_of x.haystack from)) last captures found
       → IsNextOfOne x p groups true (rest_of x.haystack from) last found.span
@@ -40,7 +41,8 @@ pub record AreWays {W : Type 0} (chars : W → ℕ → Bool) (program : Compiled
 module _ {W : Type 0} (chars : W → ℕ → Bool) (program : Compiled W) (groups : Groups) (p : Pattern) (x : Subject) (its : AreWays chars program groups p x) where
   next_way : (from : ℕ) (last : Option ℕ) (captures : Captured) (found : Matched)
       → IsNextMatch (search_in chars program (rest_of x.haystack from)) last captures found → HasSlotsOf program captures
-      → (w : Way) × (w.end ≡ found.span.end) × IsNextWay x groups p last from w × (record { found = found; captures = captures } ≡ match_of_way groups w)
+      → (w : Way) × (w.end ≡ found.span.end) × IsNextWay x groups p last from w
+      × (record { found = found; captures = captures } ≡ match_of_way groups w)
   next_way from last captures found next room =
       let one = its.ways from last captures found next in
       let w : Way = record { start = found.span.start; end = found.span.end; records = one.records } in
@@ -114,7 +116,7 @@ module _ (laws : OneWay) (x : Subject) (groups : Groups) (p : Pattern) where
 
   -- where a match is, none is passed
   not_passed : (last : Option ℕ) (from : ℕ) (w : Way) → IsNextWay x groups p last from w
-      → IsPassedOfOne x p groups true (length x.haystack) last w.start → ⊥
+      → IsLeftOutOfOne x p groups true (length x.haystack) last w.start → ⊥
   not_passed last from w it (inl none) = none w.end it.way.within it.way.goes
   not_passed last from w it (inr passed) =
       let v : Way = record { start = w.start; end = w.start; records = passed.0.0 } in
@@ -122,8 +124,8 @@ module _ (laws : OneWay) (x : Subject) (groups : Groups) (p : Pattern) where
 
   same_next_way : (last : Option ℕ) (from : ℕ) (v w : Way) → IsNextWay x groups p last from v → IsNextWay x groups p last from w → v ≡ w
   same_next_way last from v w one other =
-      let low : v.start < w.start → ⊥ = λ before. not_passed last from v one (other.next.passed v.start one.next.begins.start before) in
-      let high : w.start < v.start → ⊥ = λ before. not_passed last from w other (one.next.passed w.start other.next.begins.start before) in
+      let low : v.start < w.start → ⊥ = λ before. not_passed last from v one (other.next.left_out v.start one.next.begins.start before) in
+      let high : w.start < v.start → ⊥ = λ before. not_passed last from w other (one.next.left_out w.start other.next.begins.start before) in
       same_way v w (omega (arith, low, high)) one.way other.way
 
   pub same_ways : (last : Option ℕ) (from : ℕ) (one other : List Way) → AreAllWays x groups p last from one → AreAllWays x groups p last from other

@@ -7,18 +7,19 @@ use Rattle.rsc_captures.specs.Captured.{Captured}
 use Rattle.rsc_captures.specs.Groups.{GroupLists}
 use Rattle.rsc_engine.specs.Searches.{Search, search_in}
 use Rattle.rsc_engine.specs.PatternMatches.{HasSlotsOf}
-use Rattle.rsc_engine.specs.NextMatches.{Left, IsNext, IsNextMatch, IsOver, after}
+use Rattle.rsc_engine.specs.NextMatches.{MatchesLeft, IsNext, IsNextMatch, IsOver, after}
 use Rattle.rsc_replace.specs.Templates.{filled}
 use Rattle.rsc_replace.specs.Replacements.{MatchWith, AreAllWith, AreFirstWith, with_matches_filled, IsReplaced, IsReplacedUpTo}
 
 -- the text so far: with what is left replaced after it, all of the first is replaced
-pub record IsBegun {W : Type 0} (chars : W → ℕ → Bool) (template : List ℕ) (first now : Left W) (out : List ℕ) : Type 0 where
+pub record IsBegun {W : Type 0} (chars : W → ℕ → Bool) (template : List ℕ) (first now : MatchesLeft W) (out : List ℕ) : Type 0 where
   pub goes_on : (rest : List ℕ) → IsReplaced chars template now rest → IsReplaced chars template first (out ++ rest)
 
-pub begun_none : {W : Type 0} (chars : W → ℕ → Bool) (template : List ℕ) (first : Left W) → IsBegun chars template first first []
+pub begun_none : {W : Type 0} (chars : W → ℕ → Bool) (template : List ℕ) (first : MatchesLeft W) → IsBegun chars template first first []
 begun_none chars template first = record { goes_on = λ rest h. h }
 
-pub begun_more : {W : Type 0} (chars : W → ℕ → Bool) (template : List ℕ) (first now : Left W) (out : List ℕ) (found : Matched) (captures : Captured)
+pub begun_more : {W : Type 0}
+    (chars : W → ℕ → Bool) (template : List ℕ) (first now : MatchesLeft W) (out : List ℕ) (found : Matched) (captures : Captured)
     → IsBegun chars template first now out → IsNextMatch (search_in chars now.program now.input) now.last captures found → HasSlotsOf now.program captures
     → IsBegun chars template first (after now found)
     ((out ++ slice_range now.input.haystack now.input.span.start found.span.start) ++ filled now.input.haystack captures template)
@@ -33,7 +34,8 @@ begun_more {W = W} chars template first now out found captures begun next room =
       (all.0, all.1, same ∙ all.2);
 }
 
-pub begun_all : {W : Type 0} (chars : W → ℕ → Bool) (template : List ℕ) (first now : Left W) (out : List ℕ) → IsBegun chars template first now out
+pub begun_all : {W : Type 0} (chars : W → ℕ → Bool) (template : List ℕ) (first now : MatchesLeft W) (out : List ℕ)
+    → IsBegun chars template first now out
     → IsOver (search_in chars now.program now.input) now.last → IsReplaced chars template first (out ++ drop now.input.span.start now.input.haystack)
 begun_all chars template first now out begun over = begun.goes_on (drop now.input.span.start now.input.haystack) ([], over, refl)
 
@@ -64,7 +66,7 @@ pub record OneNext : Type 0 where
       → one.groups ≡ other.groups → length one.offsets ≡ length other.offsets → (m ≡ n) × (one ≡ other)
   pub over : (e : Search) (last : Option ℕ) (run : List (ℕ × ℕ)) → IsOver e last → IsNext e last run → ⊥
 
-pub same_all : {W : Type 0} (chars : W → ℕ → Bool) → OneNext → (left : Left W) (one other : List MatchWith) → AreAllWith chars left one
+pub same_all : {W : Type 0} (chars : W → ℕ → Bool) → OneNext → (left : MatchesLeft W) (one other : List MatchWith) → AreAllWith chars left one
     → AreAllWith chars left other → one ≡ other
 same_all chars laws left [] [] a b = refl
 same_all chars laws left [] (n ∷ others) over b = absurd (laws.over (search_in chars left.program left.input) left.last b.0.run over b.0.is_next)
@@ -79,22 +81,24 @@ same_all chars laws left (m ∷ rest) (n ∷ others) a b =
     (subst (λ (f : Matched). AreAllWith chars (after left f) others) (sym found) b.2) in
     cc
 
-pub same_text : {W : Type 0} (chars : W → ℕ → Bool) → OneNext → (left : Left W) (template one other : List ℕ) → IsReplaced chars template left one
+pub same_text : {W : Type 0} (chars : W → ℕ → Bool) → OneNext → (left : MatchesLeft W) (template one other : List ℕ)
+    → IsReplaced chars template left one
     → IsReplaced chars template left other → one ≡ other
 same_text chars laws left template one other a b =
     let all = same_all chars laws left a.0 b.0 a.1 b.1 in
     a.2 ∙ (ap (λ (x : List MatchWith). with_matches_filled left.input.haystack template left.input.span.start x) all ∙ sym b.2)
 
 -- the text so far: with as many of the matches that are left replaced after it as there may yet be, the first ones of all are replaced
-pub record IsBegunUpTo {W : Type 0} (chars : W → ℕ → Bool) (template : List ℕ) (most : ℕ) (first : Left W) (more : ℕ) (now : Left W)
+pub record IsBegunUpTo {W : Type 0} (chars : W → ℕ → Bool) (template : List ℕ) (most : ℕ) (first : MatchesLeft W) (more : ℕ) (now : MatchesLeft W)
     (out : List ℕ) : Type 0 where
   pub goes_on : (rest : List ℕ) → IsReplacedUpTo chars template more now rest → IsReplacedUpTo chars template most first (out ++ rest)
 
-pub up_to_none : {W : Type 0} (chars : W → ℕ → Bool) (template : List ℕ) (most : ℕ) (first : Left W) → IsBegunUpTo chars template most first most first []
+pub up_to_none : {W : Type 0} (chars : W → ℕ → Bool) (template : List ℕ) (most : ℕ) (first : MatchesLeft W)
+    → IsBegunUpTo chars template most first most first []
 up_to_none chars template most first = record { goes_on = λ rest h. h }
 
-pub up_to_more : {W : Type 0} (chars : W → ℕ → Bool) (template : List ℕ) (most : ℕ) (first : Left W) (more : ℕ) (now : Left W) (out : List ℕ) (found : Matched)
-    (captures : Captured) → 0 < more → IsBegunUpTo chars template most first more now out
+pub up_to_more : {W : Type 0} (chars : W → ℕ → Bool) (template : List ℕ) (most : ℕ) (first : MatchesLeft W) (more : ℕ) (now : MatchesLeft W)
+    (out : List ℕ) (found : Matched) (captures : Captured) → 0 < more → IsBegunUpTo chars template most first more now out
     → IsNextMatch (search_in chars now.program now.input) now.last captures found → HasSlotsOf now.program captures
     → IsBegunUpTo chars template most first (more - 1) (after now found)
     ((out ++ slice_range now.input.haystack now.input.span.start found.span.start) ++ filled now.input.haystack captures template)
@@ -112,20 +116,22 @@ up_to_more {W = W} chars template most first (suc more) now out found captures s
           (all.0, all.1, same ∙ all.2);
     })
 
-pub up_to_over : {W : Type 0} (chars : W → ℕ → Bool) (template : List ℕ) (most : ℕ) (first : Left W) (more : ℕ) (now : Left W) (out : List ℕ)
+pub up_to_over : {W : Type 0}
+    (chars : W → ℕ → Bool) (template : List ℕ) (most : ℕ) (first : MatchesLeft W) (more : ℕ) (now : MatchesLeft W) (out : List ℕ)
     → IsBegunUpTo chars template most first more now out → IsOver (search_in chars now.program now.input) now.last
     → IsReplacedUpTo chars template most first (out ++ drop now.input.span.start now.input.haystack)
 up_to_over chars template most first zero now out begun over = begun.goes_on (drop now.input.span.start now.input.haystack) ([], refl, refl)
 up_to_over chars template most first (suc more) now out begun over = begun.goes_on (drop now.input.span.start now.input.haystack) ([], over, refl)
 
-pub up_to_all : {W : Type 0} (chars : W → ℕ → Bool) (template : List ℕ) (most : ℕ) (first : Left W) (more : ℕ) (now : Left W) (out : List ℕ)
+pub up_to_all : {W : Type 0}
+    (chars : W → ℕ → Bool) (template : List ℕ) (most : ℕ) (first : MatchesLeft W) (more : ℕ) (now : MatchesLeft W) (out : List ℕ)
     → IsBegunUpTo chars template most first more now out → more ≡ 0
     → IsReplacedUpTo chars template most first (out ++ drop now.input.span.start now.input.haystack)
 up_to_all chars template most first zero now out begun at = begun.goes_on (drop now.input.span.start now.input.haystack) ([], refl, refl)
 up_to_all chars template most first (suc more) now out begun at = absurd (omega (arith, at))
 
-pub same_first : {W : Type 0} (chars : W → ℕ → Bool) → OneNext → (most : ℕ) (left : Left W) (one other : List MatchWith) → AreFirstWith chars most left one
-    → AreFirstWith chars most left other → one ≡ other
+pub same_first : {W : Type 0} (chars : W → ℕ → Bool) → OneNext → (most : ℕ) (left : MatchesLeft W) (one other : List MatchWith)
+    → AreFirstWith chars most left one → AreFirstWith chars most left other → one ≡ other
 same_first chars laws zero left one other a b = a ∙ sym b
 same_first chars laws (suc most) left [] [] a b = refl
 same_first chars laws (suc most) left [] (n ∷ others) over b =
@@ -142,7 +148,7 @@ same_first chars laws (suc most) left (m ∷ rest) (n ∷ others) a b =
     (subst (λ (f : Matched). AreFirstWith chars most (after left f) others) (sym found) b.2) in
     cc
 
-pub same_first_text : {W : Type 0} (chars : W → ℕ → Bool) → OneNext → (most : ℕ) (left : Left W) (template one other : List ℕ)
+pub same_first_text : {W : Type 0} (chars : W → ℕ → Bool) → OneNext → (most : ℕ) (left : MatchesLeft W) (template one other : List ℕ)
     → IsReplacedUpTo chars template most left one → IsReplacedUpTo chars template most left other → one ≡ other
 same_first_text chars laws most left template one other a b =
     let first = same_first chars laws most left a.0 b.0 a.1 b.1 in

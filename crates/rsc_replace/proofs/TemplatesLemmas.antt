@@ -18,7 +18,8 @@ use Rattle.rsc_replace.specs.Templates.{dollar, as_number, span_called, bytes_of
 abbrev pub FitsNumber : List ℕ → Type 0
 FitsNumber bs = IsNumeral 10 bs × (digits_value 10 bs < 2 ^ 64)
 
-pub number_read : (name : List ℕ) (n : ℕ) → FitsNumber (without_leading_plus name) → n ≡ digits_value 10 (without_leading_plus name) → as_number name ≡ Some n
+pub number_read : (name : List ℕ) (n : ℕ) → FitsNumber (without_leading_plus name) → n ≡ digits_value 10 (without_leading_plus name)
+    → as_number name ≡ Some n
 unfolding as_number
 number_read name n fits is =
     let digits : all_ascii_digits (without_leading_plus name) ≡ true =
@@ -79,7 +80,8 @@ pub piece_at : (text : List ℕ) (captures : Captured) (t piece : List ℕ) (n :
 piece_at text captures t piece n some none is =
     let stops = prefix_len_stops (λ (other : ℕ). not (other == dollar)) t 0 (omega (arith, none, some)) in
     let first : slice_index t 0 ≡ dollar = grind (arith, nat_tests, rw none at stops) in
-    subst (λ (both : List ℕ × ℕ). filled text captures t ≡ both.0 ++ filled text captures (drop (1 + both.1) t)) is (at_dollar text captures t some first)
+    subst (λ (both : List ℕ × ℕ). filled text captures t ≡ both.0 ++ filled text captures (drop (1 + both.1) t)) is
+    (at_dollar text captures t some first)
 
 pub two_dollars : (text : List ℕ) (captures : Captured) (rest : List ℕ) → (slice_index rest 0 == dollar) ≡ true
     → dollar_piece text captures rest ≡ (dollar ∷ [], 1)

@@ -10,9 +10,9 @@ use Rattle.rsc_engine.specs.Ways.{last_in}
 use Rattle.rsc_engine.specs.OnePattern.{IsWayOfOne, IsNextOfOne, IsOverOfOne}
 use Rattle.rsc_replace.specs.Replacements.{MatchWith, with_matches_filled}
 
--- a text whose lines end by \n
-abbrev pub read_as_text : List ℕ → (ℕ → Bool) → Subject
-read_as_text haystack chars = record { haystack = haystack; terminator = 10; word_chars = chars }
+-- a text as a subject, whose lines end by \n
+abbrev pub subject_of_text : List ℕ → (ℕ → Bool) → Subject
+subject_of_text haystack chars = record { haystack = haystack; terminator = 10; word_chars = chars }
 
 -- where a match begins and ends, and what it records in slots, the last record first
 pub record Way : Type 0 where

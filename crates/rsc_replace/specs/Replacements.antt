@@ -4,7 +4,7 @@ use Rattle.rsc_search.specs.Matches.{Matched}
 use Rattle.rsc_captures.specs.Captured.{Captured}
 use Rattle.rsc_engine.specs.Searches.{search_in}
 use Rattle.rsc_engine.specs.PatternMatches.{HasSlotsOf}
-use Rattle.rsc_engine.specs.NextMatches.{Left, IsNextMatch, IsOver, after}
+use Rattle.rsc_engine.specs.NextMatches.{MatchesLeft, IsNextMatch, IsOver, after}
 use Rattle.rsc_replace.specs.Templates.{filled}
 
 -- a match with its captures
@@ -13,7 +13,7 @@ pub record MatchWith : Type 0 where
   pub captures : Captured
 
 -- these are all matches of what is left, in order, each with its captures, which have a slot for each group
-abbrev pub AreAllWith : {W : Type 0} → (W → ℕ → Bool) → Left W → List MatchWith → Type 0
+abbrev pub AreAllWith : {W : Type 0} → (W → ℕ → Bool) → MatchesLeft W → List MatchWith → Type 0
 AreAllWith chars left [] = IsOver (search_in chars left.program left.input) left.last
 AreAllWith chars left (m ∷ rest) =
     IsNextMatch (search_in chars left.program left.input) left.last m.captures m.found
@@ -27,12 +27,12 @@ with_matches_filled text template from (m ∷ rest) =
     slice_range text from m.found.span.start ++ (filled text m.captures template ++ with_matches_filled text template m.found.span.end rest)
 
 -- these bytes are the rest of the haystack, with all matches that are left replaced
-abbrev pub IsReplaced : {W : Type 0} → (W → ℕ → Bool) → List ℕ → Left W → List ℕ → Type 0
+abbrev pub IsReplaced : {W : Type 0} → (W → ℕ → Bool) → List ℕ → MatchesLeft W → List ℕ → Type 0
 IsReplaced chars template left out =
     (all : List MatchWith) × AreAllWith chars left all × (out ≡ with_matches_filled left.input.haystack template left.input.span.start all)
 
 -- these are as many matches of what is left as a number says, the first ones in order, or all if there are no more
-abbrev pub AreFirstWith : {W : Type 0} → (W → ℕ → Bool) → ℕ → Left W → List MatchWith → Type 0
+abbrev pub AreFirstWith : {W : Type 0} → (W → ℕ → Bool) → ℕ → MatchesLeft W → List MatchWith → Type 0
 AreFirstWith chars zero left first = first ≡ []
 AreFirstWith chars (suc most) left [] = IsOver (search_in chars left.program left.input) left.last
 AreFirstWith chars (suc most) left (m ∷ rest) =
@@ -41,7 +41,7 @@ AreFirstWith chars (suc most) left (m ∷ rest) =
     × AreFirstWith chars most (after left m.found) rest
 
 -- these bytes are the rest of the haystack, with as many matches replaced, the first ones that are left, or all if there are no more
-abbrev pub IsReplacedUpTo : {W : Type 0} → (W → ℕ → Bool) → List ℕ → ℕ → Left W → List ℕ → Type 0
+abbrev pub IsReplacedUpTo : {W : Type 0} → (W → ℕ → Bool) → List ℕ → ℕ → MatchesLeft W → List ℕ → Type 0
 IsReplacedUpTo chars template most left out =
     (first : List MatchWith) × AreFirstWith chars most left first
     × (out ≡ with_matches_filled left.input.haystack template left.input.span.start first)

@@ -5,7 +5,7 @@ ghost use Rattle.rsc_engine.specs.declared.error.Error.TheVariants.{OutOfMemory}
 ghost use Rattle.rsc_replace.specs.Replacements.{IsReplaced, IsReplacedUpTo};
 
 use crate::{expand, replace_all};
-use rsc_engine::{AsciiWordClass, Error, Matches, Program};
+use rsc_engine::{AsciiCompatible, Error, Matches, Program};
 use rsc_look::WordClass;
 use rsc_search::Input;
 use std::alloc::Global;
@@ -26,16 +26,16 @@ use std::alloc::Global;
 /// let out = replacen(rt.alloc(), &program, b"a-a-a", 2, b"b")?;
 /// assert!(rt; out.as_slice() == b"b-b-a".as_slice());
 /// ```
-pub fn replacen<W: WordClass + AsciiWordClass>(
+pub fn replacen<W: WordClass + AsciiCompatible>(
     alloc: Global,
     program: &Program<W>,
     text: &[u8],
     limit: usize,
     template: &[u8],
 ) -> Result<Vec<u8>, Error>
-    ensures all { limit ≡ 0 → IfOk result (λ out. IsReplaced W.word_chars template.now
+    ensures replaced { limit ≡ 0 → IfOk result (λ out. IsReplaced W.word_chars template.now
         (record { program = program.now; input = whole text.now; last = None }) out.items) }
-    ensures first { 0 < limit → IfOk result (λ out. IsReplacedUpTo W.word_chars template.now limit
+    ensures up_to { 0 < limit → IfOk result (λ out. IsReplacedUpTo W.word_chars template.now limit
         (record { program = program.now; input = whole text.now; last = None }) out.items) }
     ensures refused { IfErr result (λ e. e ≡ OutOfMemory) }
 {
@@ -46,7 +46,7 @@ pub fn replacen<W: WordClass + AsciiWordClass>(
 }
 
 // The text with as many of the first matches replaced.
-fn replace_first<W: WordClass + AsciiWordClass>(
+fn replace_first<W: WordClass + AsciiCompatible>(
     alloc: Global,
     program: &Program<W>,
     text: &[u8],

@@ -5,11 +5,11 @@ ghost use Rattle.rsc_engine.specs.declared.error.Error.TheVariants.{OutOfMemory,
 ghost use Rattle.rsc_engine.specs.Parts.{pattern_of, groups_of_pattern};
 ghost use Rattle.rsc_engine.specs.Refusals.{IsErrorOf, RepeatsName, are_too_large};
 ghost use Rattle.rsc_engine.specs.Sizes.{most_states};
-ghost use Rattle.rsc_replace.specs.PartReplacements.{IsPartReplaced, read_as_text};
+ghost use Rattle.rsc_replace.specs.PartReplacements.{IsPartReplaced, subject_of_text};
 ghost use Rattle.rsc_replace.specs.Replacements.{IsReplaced};
 
 use crate::expand;
-use rsc_engine::{AsciiWordClass, Builder, Error, Matches, Part, Program, laws};
+use rsc_engine::{AsciiCompatible, Builder, Error, Matches, Part, Program, laws};
 use rsc_look::WordClass;
 use rsc_search::Input;
 use std::alloc::Global;
@@ -34,7 +34,7 @@ use std::alloc::Global;
 /// let out = replace_all(rt.alloc(), &program, b"ab cd, e f", b"$2-$1")?;
 /// assert!(rt; out.as_slice() == b"cd-ab, f-e".as_slice());
 /// ```
-pub fn replace_all<W: WordClass + AsciiWordClass>(
+pub fn replace_all<W: WordClass + AsciiCompatible>(
     alloc: Global,
     program: &Program<W>,
     text: &[u8],
@@ -87,17 +87,17 @@ pub fn replace_all<W: WordClass + AsciiWordClass>(
 /// let out = replace_part(rt.alloc(), AsciiWord, reversed, b"baa", b"-")?;
 /// assert!(rt; out.as_slice() == b"baa".as_slice());
 /// ```
-pub fn replace_part<W: WordClass + AsciiWordClass>(
+pub fn replace_part<W: WordClass + AsciiCompatible>(
     alloc: Global,
     word_class: W,
     part: Part<'_>,
     text: &[u8],
     template: &[u8],
 ) -> Result<Vec<u8>, Error>
-    ensures replaced { IfOk result (λ out. IsPartReplaced (read_as_text text.now (W.word_chars word_class))
+    ensures replaced { IfOk result (λ out. IsPartReplaced (subject_of_text text.now (W.word_chars word_class))
         (groups_of_pattern part.entry) (pattern_of part.entry) template.now out.items) }
     ensures large { IsTrue (are_too_large most_states (pattern_of part.entry ∷ []) (groups_of_pattern part.entry ∷ [])) → result ≡ Err TooLarge }
-    ensures names { OnOk result (¬ (RepeatsName (groups_of_pattern part.entry ∷ []))) }
+    ensures names_differ { OnOk result (¬ (RepeatsName (groups_of_pattern part.entry ∷ []))) }
     ensures refused { IfErr result (IsErrorOf most_states (pattern_of part.entry ∷ []) (groups_of_pattern part.entry ∷ [])) }
 {
     laws::one_pattern::a_match_of_one_pattern::<W>();

@@ -210,7 +210,8 @@ module _ (blocks : List ℕ) (index rest found next : ℕ) (fits : next < 2 ^ 64
   order_to some order = let none : bit_length 0 ≡ 0 = length_of_zero in omega arith
 
   -- down to it no number is set
-  pub clear_to : 0 < found → next ≡ block_of blocks (found - 1) → ((q : ℕ) → rest_end found 0 ≤ q → q < rest_end index rest → is_set blocks q ≡ false) → (q : ℕ)
+  pub clear_to : 0 < found → next ≡ block_of blocks (found - 1)
+      → ((q : ℕ) → rest_end found 0 ≤ q → q < rest_end index rest → is_set blocks q ≡ false) → (q : ℕ)
       → rest_end (found - 1) next ≤ q → q < rest_end index rest → is_set blocks q ≡ false
   clear_to some is clear q from below = elim (cases_lt q (rest_end found 0)) [
     | inl before ↦ let none : bit_length 0 ≡ 0 = length_of_zero in clear_after blocks (found - 1) next fits is q from (omega (arith, none, before))

@@ -67,6 +67,7 @@ unsupported_pattern : error_text (UnsupportedAnchored (Pattern 4)) ≡ codes "an
 unfolding digits
 unsupported_pattern = refl
 
-refused : refused_insertion_text (record { attempted = 3; capacity = 3 }) ≡ codes "failed to insert pattern ID 3 into pattern set with insufficient capacity of 3"
+refused : refused_insertion_text (record { attempted = 3; capacity = 3 })
+    ≡ codes "failed to insert pattern ID 3 into pattern set with insufficient capacity of 3"
 unfolding digits
 refused = refl

@@ -85,7 +85,8 @@ module _ (capacity : ℕ) (blocks : List ℕ) (spare_clear : (p : ℕ) → capac
     -- a set with one bit more has one member more
     pub with_one_more : patterns_held capacity others ≡ with_member (patterns_held capacity blocks) p
     with_one_more =
-        let members : numbers_below capacity (is_set others) ≡ numbers_below capacity (λ q. eqb q p || has_member (patterns_held capacity blocks).members q) =
+        let members : numbers_below capacity (is_set others)
+        ≡ numbers_below capacity (λ q. eqb q p || has_member (patterns_held capacity blocks).members q) =
         range_filter_same (is_set others) (λ q. eqb q p || has_member (patterns_held capacity blocks).members q) 0 capacity
         (λ q from below. at q ∙ rw (has_member-set q) refl) in
         ap (λ (ms : List ℕ). let s : Patterns = record { capacity = capacity; members = ms } in s) members

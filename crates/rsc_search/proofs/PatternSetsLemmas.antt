@@ -33,7 +33,8 @@ module _ (t : ℕ → Bool) where
   pub member_in : (a n q : ℕ) → a ≤ q → q < a + n → has_member (filter t (range_with_len a n)) q ≡ t q
   member_in a n q from below = member_is a n q ∙ rw (le-leb a q from, lt-ltb q (a + n) below) (and-true (t q))
 
-  cut_at : (a c b : ℕ) → a ≤ c → c ≤ b → filter t (range_with_len a (b - a)) ≡ filter t (range_with_len a (c - a)) ++ filter t (range_with_len c (b - c))
+  cut_at : (a c b : ℕ) → a ≤ c → c ≤ b
+      → filter t (range_with_len a (b - a)) ≡ filter t (range_with_len a (c - a)) ++ filter t (range_with_len c (b - c))
   cut_at a c b from to =
       let parts : b - a ≡ (c - a) + (b - c) = omega arith in
       let there : a + (c - a) ≡ c = omega arith in
@@ -41,7 +42,8 @@ module _ (t : ℕ → Bool) where
       ∙ rw there refl)
 
   -- from a on and below b: nothing between a and c passes, so it may begin at c
-  pub skip_front : (a c b : ℕ) → a ≤ c → ((q : ℕ) → a ≤ q → q < c → t q ≡ false) → filter t (range_with_len a (b - a)) ≡ filter t (range_with_len c (b - c))
+  pub skip_front : (a c b : ℕ) → a ≤ c → ((q : ℕ) → a ≤ q → q < c → t q ≡ false)
+      → filter t (range_with_len a (b - a)) ≡ filter t (range_with_len c (b - c))
   skip_front a c b order fails =
       elim (cases_lt b c) [
         | inl short ↦
@@ -51,7 +53,8 @@ module _ (t : ℕ → Bool) where
       ]
 
   -- nothing between c and b passes, so it may end at c
-  pub skip_back : (a c b : ℕ) → c ≤ b → ((q : ℕ) → c ≤ q → q < b → t q ≡ false) → filter t (range_with_len a (b - a)) ≡ filter t (range_with_len a (c - a))
+  pub skip_back : (a c b : ℕ) → c ≤ b → ((q : ℕ) → c ≤ q → q < b → t q ≡ false)
+      → filter t (range_with_len a (b - a)) ≡ filter t (range_with_len a (c - a))
   skip_back a c b order fails =
       elim (cases_lt c a) [
         | inl short ↦
@@ -102,7 +105,8 @@ pub is_contained : (members : List ℕ) (p : ℕ) → (has_member members p ≡ 
 is_contained members p = (to_contains members p, from_contains members p)
 
 -- the first of ascending members is the least
-pub first_is_least : (members rest : List ℕ) (first p : ℕ) → members ≡ first ∷ rest → IsStrictlyIncreasing members → has_member members p ≡ true → first ≤ p
+pub first_is_least : (members rest : List ℕ) (first p : ℕ) → members ≡ first ∷ rest → IsStrictlyIncreasing members
+    → has_member members p ≡ true → first ≤ p
 first_is_least members rest first p parts ascends is =
     let there : Contains members p = to_contains members p is in
     let head : get_or members 0 p ≡ first = ap (λ ms. get_or ms 0 p) parts in
@@ -154,7 +158,8 @@ one_more s p is_set below =
     let all : numbers_below s.capacity (has_member s.members) ≡ s.members =
     filtered s.members 0 s.capacity (AllPairs-from_increasing s.members is_set.ascending) (λ k d lt. omega arith) within in
     elim (cases_Bool (has_member s.members p)) [
-      | inl is ↦ rw is (ap length (range_filter_same (λ q. eqb q p || has_member s.members q) (has_member s.members) 0 s.capacity (λ q from lt. had is q) ∙
+      | inl is ↦ rw is
+          (ap length (range_filter_same (λ q. eqb q p || has_member s.members q) (has_member s.members) 0 s.capacity (λ q from lt. had is q) ∙
           all))
       | inr out ↦ rw out (length_one_more (has_member s.members) (λ q. eqb q p || has_member s.members q) 0 s.capacity p (omega arith)
           (omega (arith, below)) out (rw (eq-eqb p p refl) refl) (λ q ne. rw (ne_eqb q p ne) refl) ∙ ap (λ (ms : List ℕ). length ms + 1) all)

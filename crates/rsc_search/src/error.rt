@@ -73,6 +73,7 @@ impl MatchError {
     pub fn kind(&self) -> &MatchErrorKind
         ensures { result.now ≡ self.now }
     {
+        // No wrong body: nothing else of its type is at hand.
         &self.kind
     }
 

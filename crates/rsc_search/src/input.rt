@@ -161,7 +161,7 @@ impl<'h> Input<'h> {
         self.span.start = start;
     }
 
-    /// Sets the span's end, to a position of the haystack that the start is at most one above.
+    /// Sets the span's end: a position of the haystack, and at least the start minus 1.
     #[inline]
     pub fn set_end(&mut self, end: usize)
         requires within { end ≤ length self.old.haystack }
@@ -190,7 +190,7 @@ impl<'h> Input<'h> {
     /// The haystack. It is lent for as long as it lives, and so beyond this input.
     #[inline]
     pub fn haystack(&self) -> &'h [u8]
-        ensures bytes { result.now ≡ self.now.haystack }
+        ensures value { result.now ≡ self.now.haystack }
         ensures within { self.now.span.end ≤ length self.now.haystack }
         ensures order { self.now.span.start ≤ self.now.span.end + 1 }
         ensures most { self.now.span.end + 1 < 2 ^ 64 }
@@ -263,7 +263,7 @@ impl<'h> Input<'h> {
     /// character begins and at the end.
     #[inline]
     pub fn is_char_boundary(&self, at: usize) -> bool
-        ensures char_boundary { IsTrue result ↔ IsCharBoundary self.now.haystack at }
+        ensures value { IsTrue result ↔ IsCharBoundary self.now.haystack at }
         ensures valid { (chars : List ℕ) → EncodesAll self.now.haystack chars →
             IsTrue result ↔ (((c : ℕ) × BeginsAt self.now.haystack at c) ⊎ (at ≡ length self.now.haystack)) }
     {
@@ -274,7 +274,7 @@ impl<'h> Input<'h> {
     /// match may still be found.
     #[inline]
     pub fn is_done(&self) -> bool
-        ensures done { IsTrue result ↔ (self.now.span.end < self.now.span.start) }
+        ensures value { IsTrue result ↔ (self.now.span.end < self.now.span.start) }
         ensures within { self.now.span.end ≤ length self.now.haystack }
         ensures order { self.now.span.start ≤ self.now.span.end + 1 }
         ensures most { self.now.span.end + 1 < 2 ^ 64 }

@@ -61,14 +61,14 @@ pub fn clones_are_their_sources()
     ensures error_kind_accepted { (a : errors.MatchErrorKind) → ⟦<MatchErrorKind as Clone>⟧.is_infallible a }
     ensures error { (a b : errors.MatchErrorKind) → ⟦<MatchError as Clone>⟧.is_clone a b → b ≡ a }
     ensures error_accepted { (a : errors.MatchErrorKind) → ⟦<MatchError as Clone>⟧.is_infallible a }
-    ensures refusal { (a b : RefusedInsertion) → ⟦<PatternSetInsertError as Clone>⟧.is_clone a b → b ≡ a }
-    ensures refusal_accepted { (a : RefusedInsertion) → ⟦<PatternSetInsertError as Clone>⟧.is_infallible a }
-    ensures iterator { (a b : List ℕ) → ⟦<PatternSetIter<'static> as Clone>⟧.is_clone a b → b ≡ a }
-    ensures iterator_accepted { (a : List ℕ) → ⟦<PatternSetIter<'static> as Clone>⟧.is_infallible a }
+    ensures insert_error { (a b : RefusedInsertion) → ⟦<PatternSetInsertError as Clone>⟧.is_clone a b → b ≡ a }
+    ensures insert_error_accepted { (a : RefusedInsertion) → ⟦<PatternSetInsertError as Clone>⟧.is_infallible a }
+    ensures iter { (a b : List ℕ) → ⟦<PatternSetIter<'static> as Clone>⟧.is_clone a b → b ≡ a }
+    ensures iter_accepted { (a : List ℕ) → ⟦<PatternSetIter<'static> as Clone>⟧.is_infallible a }
 {}
 
 /// Two values are equal exactly if they are the same in all parts.
-pub fn equality_is_of_all_parts()
+pub fn equality_is_of_the_value()
     ensures span { (a b : spans.Span) → (⟦<Span as PartialEq>⟧.eq a b ≡ true) ↔ (a ≡ b) }
     ensures half_match { (a b : HalfMatched) → (⟦<HalfMatch as PartialEq>⟧.eq a b ≡ true) ↔ (a ≡ b) }
     ensures whole_match { (a b : Matched) → (⟦<Match as PartialEq>⟧.eq a b ≡ true) ↔ (a ≡ b) }
@@ -94,5 +94,5 @@ pub fn hash_is_of_the_parts()
 
 /// The default match kind is `LeftmostFirst`.
 pub fn defaults()
-    ensures kind { (k : kinds.MatchKind) → ⟦<MatchKind as Default>⟧.is_default k → k ≡ LeftmostFirst }
+    ensures { (k : kinds.MatchKind) → ⟦<MatchKind as Default>⟧.is_default k → k ≡ LeftmostFirst }
 {}

@@ -7,7 +7,7 @@ use rsc_primitives::PatternID;
 use std::marker::Model;
 use std::ops::Range;
 
-/// The pattern that matched, and one end of the match: all that a search for one end knows.
+/// The pattern that matched, and one end of the match: all that a one-ended search finds.
 ///
 /// # Examples
 ///
@@ -106,7 +106,7 @@ impl Match {
     /// A match of the pattern with that number, which is at most 2147483646, at a span whose start is at most its end.
     #[inline]
     pub fn must(pattern: usize, span: Span) -> Match
-        requires pattern { IsIndex pattern }
+        requires within { IsIndex pattern }
         requires order { span.start ≤ span.end }
         ensures { result ≡ record { pattern = pattern; span = span } }
     {
@@ -170,7 +170,7 @@ impl Match {
     #[inline]
     pub fn len(&self) -> usize
         ensures value { result ≡ self.now.span.end - self.now.span.start }
-        ensures order { self.now.span.start + result ≡ self.now.span.end }
+        ensures sum { self.now.span.start + result ≡ self.now.span.end }
     {
         self.span.len()
     }

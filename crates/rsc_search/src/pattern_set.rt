@@ -65,7 +65,7 @@ impl<A: Allocator> PatternSet<A> {
         })
     }
 
-    /// Takes all members out. The capacity stays.
+    /// Removes all members. The capacity stays.
     pub fn clear(&mut self)
         ensures { self.new ≡ no_patterns self.old.capacity }
     {
@@ -77,7 +77,7 @@ impl<A: Allocator> PatternSet<A> {
     #[inline]
     pub fn contains(&self, pid: PatternID) -> bool
         ensures value { result ≡ has_member self.now.members pid }
-        ensures below { IsTrue result → pid < self.now.capacity }
+        ensures within { IsTrue result → pid < self.now.capacity }
         ensures lawful { IsSet self.now }
     {
         let p = pid.as_usize();
@@ -90,7 +90,7 @@ impl<A: Allocator> PatternSet<A> {
         requires { pid < self.old.capacity }
         ensures value { self.new ≡ with_member self.old pid }
         ensures new { result ≡ not (has_member self.old.members pid) }
-        ensures len { length self.new.members ≡ (if result then length self.old.members + 1 else length self.old.members) }
+        ensures count { length self.new.members ≡ (if result then length self.old.members + 1 else length self.old.members) }
         ensures within { length self.new.members ≤ self.new.capacity }
     {
         let p = pid.as_usize();
@@ -114,7 +114,7 @@ impl<A: Allocator> PatternSet<A> {
         ensures accepted { IsOk result ↔ (pid < self.old.capacity) }
         ensures value { OnOk result (self.new ≡ with_member self.old pid) }
         ensures new { IfOk result (λ new. new ≡ not (has_member self.old.members pid)) }
-        ensures len { IfOk result (λ new. length self.new.members ≡ (if new then length self.old.members + 1 else length self.old.members)) }
+        ensures count { IfOk result (λ new. length self.new.members ≡ (if new then length self.old.members + 1 else length self.old.members)) }
         ensures within { length self.new.members ≤ self.new.capacity }
         ensures kept { OnErr result (self.new ≡ self.old) }
         ensures refused { IfErr result (λ e. e ≡ record { attempted = pid; capacity = self.old.capacity }) }
@@ -134,7 +134,7 @@ impl<A: Allocator> PatternSet<A> {
     #[inline]
     #[tactic(auto, using(crate::proofs::PatternSetLayoutLemmas::is_set_below))]
     pub fn is_empty(&self) -> bool
-        ensures empty { IsTrue result ↔ (length self.now.members ≡ 0) }
+        ensures value { IsTrue result ↔ (length self.now.members ≡ 0) }
         ensures lawful { IsSet self.now }
     {
         self.count == 0
@@ -144,7 +144,7 @@ impl<A: Allocator> PatternSet<A> {
     #[inline]
     #[tactic(auto, using(crate::proofs::PatternSetLayoutLemmas::is_set_below))]
     pub fn is_full(&self) -> bool
-        ensures full { IsTrue result ↔ (length self.now.members ≡ self.now.capacity) }
+        ensures value { IsTrue result ↔ (length self.now.members ≡ self.now.capacity) }
         ensures lawful { IsSet self.now }
     {
         self.count == self.capacity
@@ -176,7 +176,7 @@ impl<A: Allocator> PatternSet<A> {
     pub fn iter(&self) -> PatternSetIter<'_>
         ensures value { result ≡ self.now.members }
         ensures ascending { IsStrictlyIncreasing result }
-        ensures below { All (λ p. p < self.now.capacity) result }
+        ensures within { All (λ p. p < self.now.capacity) result }
         ensures contained { All (λ p. has_member self.now.members p ≡ true) result }
         ensures lawful { IsSet self.now }
     {

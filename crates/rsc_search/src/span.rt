@@ -96,7 +96,7 @@ impl Span {
     }
 
     /// The bytes of a haystack that the span names, or `None` where its start is above its end or its end above the
-    /// haystack's length.
+    /// haystack's length. The original lacks it.
     #[inline]
     pub fn get<'h>(&self, haystack: &'h [u8]) -> Option<&'h [u8]>
         ensures { option_copied result ≡ cut haystack.now self.now }
@@ -108,7 +108,7 @@ impl Span {
         }
     }
 
-    /// The bytes of the span, lent for writing, or `None` if [`Span::get`] is. Those outside it stay as they are.
+    /// The bytes of the span, lent for writing, or `None` if [`Span::get`] is. Those outside it stay as they are. The original lacks it.
     #[inline]
     pub fn get_mut<'h>(&self, haystack: &'h mut [u8]) -> Option<&'h mut [u8]>
         ensures* writes_back { sem 𝓛 (LendsCut haystack.entry self.now result) }
@@ -127,7 +127,7 @@ impl Span {
     }
 
     /// The text of a haystack that the span names, or `None` where [`Span::get`] is `None` or an end of the span
-    /// isn't a character boundary.
+    /// isn't a character boundary. The original lacks it.
     ///
     /// # Examples
     ///

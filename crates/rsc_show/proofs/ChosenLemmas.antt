@@ -17,25 +17,26 @@ differ_if false false P Q p q =
 
 -- the first assertions of a list do not tell the byte
 abbrev pub NoneTells : ℕ → ℕ → List Look → ℕ → (ℕ → Bool) → Type 0
-NoneTells b n looks t W =
-    (k : ℕ) (d : Look) → k < n → k < length looks → (i : ℕ) → i ≤ 1 → ¬ (Tells (get_or looks k d) t W (b ∷ []) ((b + 1) ∷ []) i)
+NoneTells b n looks t chars =
+    (k : ℕ) (d : Look) → k < n → k < length looks → (i : ℕ) → i ≤ 1 → ¬ (Tells (get_or looks k d) t chars (b ∷ []) ((b + 1) ∷ []) i)
 
 -- and with one more
-pub none_tells_more : (b n : ℕ) (looks : List Look) (e : Look) (t : ℕ) (W : ℕ → Bool) → NoneTells b n looks t W
-    → ((i : ℕ) → i ≤ 1 → ¬ (Tells (get_or looks n e) t W (b ∷ []) ((b + 1) ∷ []) i)) → NoneTells b (n + 1) looks t W
-none_tells_more b n looks e t W before last = λ k d h inside i le told.
+pub none_tells_more : (b n : ℕ) (looks : List Look) (e : Look) (t : ℕ) (chars : ℕ → Bool) → NoneTells b n looks t chars
+    → ((i : ℕ) → i ≤ 1 → ¬ (Tells (get_or looks n e) t chars (b ∷ []) ((b + 1) ∷ []) i)) → NoneTells b (n + 1) looks t chars
+none_tells_more b n looks e t chars before last = λ k d h inside i le told.
     ⊎_elim (λ (less : k < n). before k d less inside i le told)
     (λ more. let same : k ≡ n = omega (arith, more, h) in
-    last i le (subst (λ l. Tells l t W (b ∷ []) ((b + 1) ∷ []) i) (get_or_default looks k d e inside ∙ ap (λ j. get_or looks j e) same) told))
+    last i le (subst (λ l. Tells l t chars (b ∷ []) ((b + 1) ∷ []) i) (get_or_default looks k d e inside ∙ ap (λ j. get_or looks j e) same) told))
     (cases_lt k n)
 
 -- if none of the list tells it, the byte needs no boundary
-pub not_needed : (b n : ℕ) (looks : List Look) (t : ℕ) (W : ℕ → Bool) → length looks ≤ n → NoneTells b n looks t W → ¬ (IsNeeded b looks t W)
-not_needed b n looks t W all none = λ needed.
+pub not_needed : (b n : ℕ) (looks : List Look) (t : ℕ) (chars : ℕ → Bool) → length looks ≤ n → NoneTells b n looks t chars
+    → ¬ (IsNeeded b looks t chars)
+not_needed b n looks t chars all none = λ needed.
     let at = needed.listed in
     let inside = at.1 in
     none at.0 needed.look (omega (arith, all, inside)) inside needed.position needed.at_an_end
-    (subst (λ l. Tells l t W (b ∷ []) ((b + 1) ∷ []) needed.position) (sym at.2) needed.tells)
+    (subst (λ l. Tells l t chars (b ∷ []) ((b + 1) ∷ []) needed.position) (sym at.2) needed.tells)
 
 -- between two classes of the map of a partition there is a boundary
 pub boundary_between : (m : List ℕ) (p : ℕ → Bool) (b : ℕ)

@@ -30,14 +30,16 @@ boundary_kept b ranges r e = record {
 pub boundary_added : (b : ℕ) (ranges : List (ℕ × ℕ)) (r : ℕ × ℕ) → r.0 ≤ r.1 → BoundsRange b r → HasBoundary b (ranges ++ r ∷ [])
 boundary_added b ranges r fills boundary = record { range = r; listed = Contains-push ranges r; holds_a_byte = fills; boundary = boundary }
 
-keeps_one : (q : ℕ → Bool) (looks : List Look) (l : Look) (t : ℕ) (W : ℕ → Bool) → Contains looks l → Keeps q looks t W → Keeps q (l ∷ []) t W
-keeps_one q looks l t W listed keeps = record {
+keeps_one : (q : ℕ → Bool) (looks : List Look) (l : Look) (t : ℕ) (chars : ℕ → Bool) → Contains looks l → Keeps q looks t chars
+    → Keeps q (l ∷ []) t chars
+keeps_one q looks l t chars listed keeps = record {
   at_bytes = λ m here. keeps.at_bytes m (subst (λ x. Contains looks x) (same_as_only l m here) listed);
   at_characters = λ m here. keeps.at_characters m (subst (λ x. Contains looks x) (same_as_only l m here) listed);
 }
 
-needed_in : (b : ℕ) (looks : List Look) (l : Look) (t : ℕ) (W : ℕ → Bool) → Contains looks l → IsNeeded b (l ∷ []) t W → IsNeeded b looks t W
-needed_in b looks l t W listed needed = record {
+needed_in : (b : ℕ) (looks : List Look) (l : Look) (t : ℕ) (chars : ℕ → Bool) → Contains looks l → IsNeeded b (l ∷ []) t chars
+    → IsNeeded b looks t chars
+needed_in b looks l t chars listed needed = record {
   look = needed.look;
   listed = subst (λ x. Contains looks x) (same_as_only l needed.look needed.listed) listed;
   position = needed.position;
@@ -46,27 +48,28 @@ needed_in b looks l t W listed needed = record {
 }
 
 -- a partition that keeps and parts, and has no boundary but those of assertions and boundaries, is the coarsest one
-pub coarsest_parting : (p : ℕ → Bool) (ranges : List (ℕ × ℕ)) (looks : List Look) (t : ℕ) (W : ℕ → Bool)
-    → ((l : Look) → IsExactFor (sets.contains (boundaries_of l t)) l t W) → Keeps p looks t W → PartsRanges p ranges
-    → ((b : ℕ) → b < 255 → p b ≡ true → HasBoundary b ranges ⊎ IsOfLook b looks t) → IsCoarsestParting (class_map p) ranges looks t W
-coarsest_parting p ranges looks t W exact keeps parts only = record {
+pub coarsest_parting : (p : ℕ → Bool) (ranges : List (ℕ × ℕ)) (looks : List Look) (t : ℕ) (chars : ℕ → Bool)
+    → ((l : Look) → IsExactFor (sets.contains (boundaries_of l t)) l t chars) → Keeps p looks t chars → PartsRanges p ranges
+    → ((b : ℕ) → b < 255 → p b ≡ true → HasBoundary b ranges ⊎ IsOfLook b looks t) → IsCoarsestParting (class_map p) ranges looks t chars
+coarsest_parting p ranges looks t chars exact keeps parts only = record {
   boundaries = p;
   classes = refl;
   keeps = keeps;
   parts = parts;
   least = λ q kept parted b lt e.
       ⊎_elim (λ (h : HasBoundary b ranges). parted h.range h.listed h.holds_a_byte b lt h.boundary)
-      (λ (f : IsOfLook b looks t). (exact f.look).least q (keeps_one q looks f.look t W f.listed kept) b lt f.boundary)
+      (λ (f : IsOfLook b looks t). (exact f.look).least q (keeps_one q looks f.look t chars f.listed kept) b lt f.boundary)
       (only b lt e);
   needed = λ b lt e.
       ⊎_elim (λ (h : HasBoundary b ranges). inr h)
-      (λ (f : IsOfLook b looks t). inl (needed_in b looks f.look t W f.listed ((exact f.look).needed b lt f.boundary)))
+      (λ (f : IsOfLook b looks t). inl (needed_in b looks f.look t chars f.listed ((exact f.look).needed b lt f.boundary)))
       (only b lt e);
 }
 
 -- without ranges it is the coarsest partition that keeps the assertions
-pub without_ranges : (m : List ℕ) (looks : List Look) (t : ℕ) (W : ℕ → Bool) → IsCoarsestParting m [] looks t W → IsCoarsestMap m looks t W
-without_ranges m looks t W c = record {
+pub without_ranges : (m : List ℕ) (looks : List Look) (t : ℕ) (chars : ℕ → Bool) → IsCoarsestParting m [] looks t chars
+    → IsCoarsestMap m looks t chars
+without_ranges m looks t chars c = record {
   boundaries = c.boundaries;
   classes = c.classes;
   coarsest = record {
@@ -74,18 +77,18 @@ without_ranges m looks t W c = record {
     least = λ q kept b lt e. c.least q kept (λ r listed. let inside = listed.1 in absurd (omega (arith, inside))) b lt e;
   };
   needed = λ b lt e.
-      ⊎_elim (λ (n : IsNeeded b looks t W). n)
+      ⊎_elim (λ (n : IsNeeded b looks t chars). n)
       (λ (h : HasBoundary b []). let inside = h.listed.1 in absurd (omega (arith, inside)))
       (c.needed b lt e);
 }
 
 -- the same without ranges
-pub coarsest_map : (p : ℕ → Bool) (ranges : List (ℕ × ℕ)) (looks : List Look) (t : ℕ) (W : ℕ → Bool)
-    → ((l : Look) → IsExactFor (sets.contains (boundaries_of l t)) l t W) → Keeps p looks t W → PartsRanges p ranges
-    → ((b : ℕ) → b < 255 → p b ≡ true → HasBoundary b ranges ⊎ IsOfLook b looks t) → ranges ≡ [] → IsCoarsestMap (class_map p) looks t W
-coarsest_map p ranges looks t W exact keeps parts only none =
-    without_ranges (class_map p) looks t W
-    (subst (λ r. IsCoarsestParting (class_map p) r looks t W) none (coarsest_parting p ranges looks t W exact keeps parts only))
+pub coarsest_map : (p : ℕ → Bool) (ranges : List (ℕ × ℕ)) (looks : List Look) (t : ℕ) (chars : ℕ → Bool)
+    → ((l : Look) → IsExactFor (sets.contains (boundaries_of l t)) l t chars) → Keeps p looks t chars → PartsRanges p ranges
+    → ((b : ℕ) → b < 255 → p b ≡ true → HasBoundary b ranges ⊎ IsOfLook b looks t) → ranges ≡ [] → IsCoarsestMap (class_map p) looks t chars
+coarsest_map p ranges looks t chars exact keeps parts only none =
+    without_ranges (class_map p) looks t chars
+    (subst (λ r. IsCoarsestParting (class_map p) r looks t chars) none (coarsest_parting p ranges looks t chars exact keeps parts only))
 
 -- the set has the boundaries of the ranges, and no others
 abbrev pub AreBoundariesOf : (ℕ → Bool) → List (ℕ × ℕ) → Type 0
@@ -93,7 +96,8 @@ AreBoundariesOf p ranges = PartsRanges p ranges × ((b : ℕ) → b < 255 → p 
 
 -- and so it has with those of one more range that holds a byte
 pub boundaries_added : (p q boundaries : ℕ → Bool) (ranges : List (ℕ × ℕ)) (r : ℕ × ℕ) → ((b : ℕ) → q b ≡ (p b || boundaries b))
-    → ((b : ℕ) → b < 255 → (boundaries b ≡ true) ↔ BoundsRange b r) → r.0 ≤ r.1 → AreBoundariesOf p ranges → AreBoundariesOf q (ranges ++ r ∷ [])
+    → ((b : ℕ) → b < 255 → (boundaries b ≡ true) ↔ BoundsRange b r) → r.0 ≤ r.1 → AreBoundariesOf p ranges
+    → AreBoundariesOf q (ranges ++ r ∷ [])
 boundaries_added p q boundaries ranges r joined boundary fills before = (
   parts_more p q ranges r (λ b e. joined b ∙ or_left (p b) (boundaries b) e)
       (λ _ b lt at. joined b ∙ or_right (p b) (boundaries b) ((boundary b lt).1 at)) before.0,

@@ -30,10 +30,10 @@ PartsRanges p ranges = (r : ℕ × ℕ) → Contains ranges r → r.0 ≤ r.1 �
 
 -- the map is the class map of the coarsest partition that keeps the assertions and parts the ranges; at each of its boundaries an
 -- assertion tells the two bytes apart, or a range begins or ends
-pub record IsCoarsestParting (m : List ℕ) (ranges : List (ℕ × ℕ)) (looks : List Look) (t : ℕ) (W : ℕ → Bool) : Type 0 where
+pub record IsCoarsestParting (m : List ℕ) (ranges : List (ℕ × ℕ)) (looks : List Look) (t : ℕ) (chars : ℕ → Bool) : Type 0 where
   pub boundaries : ℕ → Bool
   pub classes : m ≡ class_map boundaries
-  pub keeps : Keeps boundaries looks t W
+  pub keeps : Keeps boundaries looks t chars
   pub parts : PartsRanges boundaries ranges
-  pub least : (q : ℕ → Bool) → Keeps q looks t W → PartsRanges q ranges → (b : ℕ) → b < 255 → boundaries b ≡ true → q b ≡ true
-  pub needed : (b : ℕ) → b < 255 → boundaries b ≡ true → IsNeeded b looks t W ⊎ HasBoundary b ranges
+  pub least : (q : ℕ → Bool) → Keeps q looks t chars → PartsRanges q ranges → (b : ℕ) → b < 255 → boundaries b ≡ true → q b ≡ true
+  pub needed : (b : ℕ) → b < 255 → boundaries b ≡ true → IsNeeded b looks t chars ⊎ HasBoundary b ranges

@@ -25,7 +25,8 @@ module _ {entry value : Symbol → ℕ} {row : List ℕ} {left all : List Symbol
 
   -- units with one entry have one value, so an entry that is filled stays right
   pub one_filled : {u : Symbol} {rest : List Symbol} {at n : ℕ} → left ≡ u ∷ rest → at ≡ entry u → n ≡ value u → at < length row
-      → ((v w : Symbol) → Contains all v → Contains all w → entry v ≡ entry w → value v ≡ value w) → Awaits entry value (slice_set row at n) rest all
+      → ((v w : Symbol) → Contains all v → Contains all w → entry v ≡ entry w → value v ≡ value w)
+      → Awaits entry value (slice_set row at n) rest all
   one_filled {u} {rest} {at} {n} e is_entry is_value within one = record {
     among = λ v c. a.among v (subst (λ xs. Contains xs v) (sym e) (later u rest v c));
     filled = λ v c.

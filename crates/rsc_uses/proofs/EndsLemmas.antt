@@ -34,7 +34,8 @@ after : (i k m : ℕ) → m ≡ i + 1 → i ≤ k → ((k ≡ i) → ⊥) → m 
 after i k m e from apart = ⊎_elim (λ (l : i < k). omega (arith, l, e)) (λ (l : k ≤ i). absurd (apart (omega (arith, l, from)))) (cases_lt i k)
 
 -- each byte of the run is in the range
-pub run_bytes : (x : Subject) (a b n min i j k : ℕ) (greedy : Bool) (Wanted : ℕ → Type 0) → AreRanges x a b greedy n min Wanted i j → i ≤ k → k < j
+pub run_bytes : (x : Subject) (a b n min i j k : ℕ) (greedy : Bool) (Wanted : ℕ → Type 0) → AreRanges x a b greedy n min Wanted i j → i ≤ k
+    → k < j
     → is_between a b (slice_get x.haystack k) ≡ true
 run_bytes x a b zero min i j k greedy Wanted f from to = absurd (omega (arith, f.1, from, to))
 run_bytes x a b (suc n) min i j k greedy Wanted f from to = ⊎_elim
@@ -74,7 +75,8 @@ left_first x a b (suc n) i j k Wanted f from to w = ⊎_elim
 
 -- ---- a run, and what is quoted
 
-pub a_run_is_in_range : (x : Subject) (a b i j k : ℕ) → IsFirstEnd x (Repeat 1 None true (Range a b)) (λ l. l ≤ length x.haystack) i j → i ≤ k → k < j
+pub a_run_is_in_range : (x : Subject) (a b i j k : ℕ) → IsFirstEnd x (Repeat 1 None true (Range a b)) (λ l. l ≤ length x.haystack) i j → i ≤ k
+    → k < j
     → is_between a b (slice_get x.haystack k) ≡ true
 a_run_is_in_range x a b i j k f from to = run_bytes x a b f.0 1 i j k true (λ l. l ≤ length x.haystack) f.1 from to
 
@@ -106,7 +108,8 @@ pub quoted_opens : (x : Subject) (i j : ℕ) → IsFirstEnd x Quoted (λ l. l �
 quoted_opens x i j f = f.1.0.0
 
 pub quoted_closes : (x : Subject) (i j : ℕ) → IsFirstEnd x Quoted (λ l. l ≤ length x.haystack) i j
-    → (at : ℕ) × (i < at) × (slice_get x.haystack at ≡ Some 34) × (j ≡ at + 1) × ((k : ℕ) → i < k → k < at → slice_get x.haystack k ≡ Some 34 → ⊥)
+    → (at : ℕ) × (i < at) × (slice_get x.haystack at ≡ Some 34) × (j ≡ at + 1)
+    × ((k : ℕ) → i < k → k < at → slice_get x.haystack k ≡ Some 34 → ⊥)
 quoted_closes x i j f =
     let opened : i + 1 ≡ f.0 = f.1.0.1 in
     let times = f.2.1.1 in
@@ -163,7 +166,8 @@ marks_quote x i j fits l one other =
             j - (i + 1),
             omega arith,
             tt,
-            subst (λ (k : ℕ). Times (Goes x (Range 0 255)) (j - (i + 1)) (i + 1) k) all (all_bytes x (j - (i + 1)) (i + 1) fits (omega (arith, all, within))),
+            subst (λ (k : ℕ). Times (Goes x (Range 0 255)) (j - (i + 1)) (i + 1) k) all
+                (all_bytes x (j - (i + 1)) (i + 1) fits (omega (arith, all, within))),
           ),
           (other, refl),
         ),

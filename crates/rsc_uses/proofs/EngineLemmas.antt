@@ -5,7 +5,7 @@ use Rattle.rsc_search.specs.Matches.{Matched}
 use Rattle.rsc_engine.specs.Searches.{search_in}
 use Rattle.rsc_search.specs.declared.span.Span.{Span}
 use Rattle.rsc_engine.specs.Lines.{LinesLeft, IsNextLine, HasNoLine, AreLines, after_line}
-use Rattle.rsc_engine.specs.NextMatches.{Left, IsNextOf, IsOver, AreAll, after}
+use Rattle.rsc_engine.specs.NextMatches.{MatchesLeft, IsNextOfLeft, IsOver, AreAll, after}
 
 -- these are the first of what is left, after each is left what `go` says, and then the other is left
 unfoldable pub AreFirst : {S X : Type 0} → (S → X → Type 0) → (S → X → S) → S → List X → S → Type 0
@@ -24,10 +24,10 @@ first_more {S = S} Next go left [] end one same next = (subst (λ (x : S). Next 
 first_more Next go left (other ∷ rest) end one first next = (first.0, first_more Next go (go left other) rest end one first.1 next)
 
 -- and none after the last
-pub first_all : {W : Type 0} (chars : W → ℕ → Bool) (left : Left W) (all : List Matched) (end : Left W) → AreFirst (IsNextOf chars) after left all end
-    → IsOver (search_in chars end.program end.input) end.last → AreAll chars left all
+pub first_all : {W : Type 0} (chars : W → ℕ → Bool) (left : MatchesLeft W) (all : List Matched) (end : MatchesLeft W)
+    → AreFirst (IsNextOfLeft chars) after left all end → IsOver (search_in chars end.program end.input) end.last → AreAll chars left all
 unfolding AreFirst
-first_all {W = W} chars left [] end same over = subst (λ (x : Left W). IsOver (search_in chars x.program x.input) x.last) (sym same) over
+first_all {W = W} chars left [] end same over = subst (λ (x : MatchesLeft W). IsOver (search_in chars x.program x.input) x.last) (sym same) over
 first_all chars left (one ∷ rest) end first over = (first.0, first_all chars (after left one) rest end first.1 over)
 
 -- and no line after the last

@@ -9,12 +9,12 @@ use Rattle.rsc_search.specs.declared.span.Span.{Span}
 use Rattle.rsc_captures.specs.Captured.{Captured, group_span}
 use Rattle.rsc_captures.specs.Groups.{GroupLists, group_count, slot_number, slot_of, all_groups}
 use Rattle.rsc_engine.specs.Searches.{Compiled, search_in}
-use Rattle.rsc_engine.specs.NextMatches.{Left, IsNextMatch, IsOver, AreAll, after}
+use Rattle.rsc_engine.specs.NextMatches.{MatchesLeft, IsNextMatch, IsOver, AreAll, after}
 use Rattle.rsc_engine.specs.Patterns.{Pattern, Subject, Goes, subject_of, IsMatchIn}
 use Rattle.rsc_engine.specs.FirstEnds.{loops_take_bytes, IsFirstEnd}
 use Rattle.rsc_engine.specs.GroupNumbers.{as_whole}
 use Rattle.rsc_engine.specs.PreferredWays.{IsPreferredWay}
-use Rattle.rsc_engine.specs.PatternMatches.{HoldRecords, recorded_span, IsNextOfAll, IsBuiltOf, HasSlotsOf}
+use Rattle.rsc_engine.specs.PatternMatches.{HoldRecords, recorded_span, IsNextOf, IsBuiltOf, HasSlotsOf}
 use Rattle.rsc_uses.specs.Lexed.{NoneGoes, IsLexed, AreLexed, AreLexedWith}
 use Rattle.rsc_uses.proofs.EngineLemmas.{AreFirst}
 
@@ -81,7 +81,7 @@ token chars program patterns text at last captures found laws next = (
   n.hold,
 )
   where
-    n : IsNextOfAll patterns program.automaton.groups (search_in chars program (rest_of text at)) last captures found
+    n : IsNextOf patterns program.automaton.groups (search_in chars program (rest_of text at)) last captures found
     n = laws.built.next (rest_of text at) last captures found next
 
     m : IsMatchIn patterns (search_in chars program (rest_of text at)) found
@@ -107,7 +107,7 @@ lexed chars program patterns text at last (found ∷ rest) laws all = (
 -- ---- with the span of a group
 
 -- the match is the next one of what is left, in captures of the program's groups; with the span of a group in them
-abbrev pub IsNextWith : {W : Type 0} → (W → ℕ → Bool) → ℕ → Left W → Matched × Option Span → Type 0
+abbrev pub IsNextWith : {W : Type 0} → (W → ℕ → Bool) → ℕ → MatchesLeft W → Matched × Option Span → Type 0
 IsNextWith chars group left both =
     (captures : Captured) × IsNextMatch (search_in chars left.program left.input) left.last captures both.0
     × HasSlotsOf left.program captures × (both.1 ≡ group_span captures group)
@@ -127,14 +127,15 @@ Spans = (lists : GroupLists) (captures : Captured) (m : Matched) (records : List
     → HoldRecords captures m records → g < group_count lists m.pattern → slot_number lists m.pattern g + 1 < length captures.offsets
     → group_span captures g ≡ recorded_span records (slot_number lists m.pattern g)
 
-pub lexed_with : {W : Type 0} (chars : W → ℕ → Bool) (program : Compiled W) (patterns : List Pattern) (text : List ℕ) (group at : ℕ) (last : Option ℕ)
-    (all : List (Matched × Option Span)) (end : Left W) → Laws chars program patterns → Spans
+pub lexed_with : {W : Type 0}
+    (chars : W → ℕ → Bool) (program : Compiled W) (patterns : List Pattern) (text : List ℕ) (group at : ℕ) (last : Option ℕ)
+    (all : List (Matched × Option Span)) (end : MatchesLeft W) → Laws chars program patterns → Spans
     → AreFirst (IsNextWith chars group) (λ left both. after left both.0) (record { program = program; input = rest_of text at; last = last }) all end
     → IsOver (search_in chars end.program end.input) end.last
     → AreLexedWith (read_by chars program.automaton.matcher text) patterns program.automaton.groups group at all
 unfolding AreFirst
 lexed_with {W = W} chars program patterns text group at last [] end laws spans same over =
-    none_left chars program patterns text at last laws (subst (λ (x : Left W). IsOver (search_in chars x.program x.input) x.last) (sym same) over)
+    none_left chars program patterns text at last laws (subst (λ (x : MatchesLeft W). IsOver (search_in chars x.program x.input) x.last) (sym same) over)
 lexed_with chars program patterns text group at last (both ∷ rest) end laws spans first over =
     let t = token chars program patterns text at last first.0.0 both.0 laws first.0.1 in (
       record {

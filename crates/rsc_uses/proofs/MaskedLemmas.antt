@@ -4,7 +4,7 @@ use Rattle.rsc_search.specs.Matches.{Matched}
 use Rattle.rsc_captures.specs.Captured.{Captured}
 use Rattle.rsc_search.specs.Inputs.{whole}
 use Rattle.rsc_engine.specs.Searches.{Compiled, search_in}
-use Rattle.rsc_engine.specs.NextMatches.{Left, AreAll, after}
+use Rattle.rsc_engine.specs.NextMatches.{MatchesLeft, AreAll, after}
 use Rattle.rsc_replace.specs.Replacements.{MatchWith, AreAllWith, AreFirstWith, with_matches_filled}
 use Rattle.rsc_replace.specs.Templates.{filled}
 use Rattle.rsc_uses.specs.Masked.{masked, IsFirstMasked}
@@ -12,7 +12,8 @@ use Rattle.rsc_uses.specs.Masked.{masked, IsFirstMasked}
 abbrev pub matches_of : List MatchWith → List Matched
 matches_of all = map (λ (m : MatchWith). m.found) all
 
-pub all_found : {W : Type 0} (chars : W → ℕ → Bool) (left : Left W) (all : List MatchWith) → AreAllWith chars left all → AreAll chars left (matches_of all)
+pub all_found : {W : Type 0} (chars : W → ℕ → Bool) (left : MatchesLeft W) (all : List MatchWith) → AreAllWith chars left all
+    → AreAll chars left (matches_of all)
 all_found chars left [] over = over
 all_found chars left (m ∷ rest) found = ((m.captures, found.0), all_found chars (after left m.found) rest found.2)
 

@@ -12,7 +12,7 @@ use Rattle.rsc_captures.specs.Captured.{Captured, no_offsets, group_span}
 use Rattle.rsc_engine.specs.Searches.{Compiled, Search, search_in}
 use Rattle.rsc_engine.specs.Runs.{is_wanted}
 use Rattle.rsc_engine.specs.Preferred.{MayBegin}
-use Rattle.rsc_engine.specs.NextMatches.{MayBeNext, IsRepeated, IsSplitAt}
+use Rattle.rsc_engine.specs.NextMatches.{MayBeNext, IsRepeatAt, IsSplitAt}
 use Rattle.rsc_engine.specs.Patterns.{Pattern, Then, Group, Subject, Goes, subject_of, IsMatchIn}
 use Rattle.rsc_engine.specs.FirstEnds.{IsFirstEnd}
 use Rattle.rsc_engine.specs.GroupNumbers.{as_whole}
@@ -46,7 +46,8 @@ pub first_end_of : {W : Type 0} (chars : W → ℕ → Bool) (program : Compiled
     → IsFirstEnd (subject_of (search_in chars program (whole haystack))) p (λ j. j ≤ length haystack) found.span.start found.span.end)
     → IsFirstEnd (text_of haystack (chars word_class)) p (λ j. j ≤ length haystack) found.span.start found.span.end
 first_end_of {W = W} chars program word_class p haystack found matcher m first =
-    subst (λ (x : ℕ × W). IsFirstEnd (record { haystack = haystack; terminator = x.0; word_chars = chars x.1 }) p (λ j. j ≤ length haystack) found.span.start
+    subst (λ (x : ℕ
+    × W). IsFirstEnd (record { haystack = haystack; terminator = x.0; word_chars = chars x.1 }) p (λ j. j ≤ length haystack) found.span.start
     found.span.end) matcher
     (first (m.its ∙ ap (λ (q : Pattern). Some q) (its_only p m.pattern found.pattern m.its)))
 
@@ -175,7 +176,8 @@ group_there lists groups made after pattern is is_made same zero_is =
     rw (is, zero_is) (omega arith, omega (arith, slots, ap all_groups is))
 
 -- where one of the patterns goes is a match
-pub match_in : {W : Type 0} (chars : W → ℕ → Bool) (program : Compiled W) (word_class : W) (patterns : List Pattern) (n : ℕ) (p : Pattern) (input : InputParts)
+pub match_in : {W : Type 0}
+    (chars : W → ℕ → Bool) (program : Compiled W) (word_class : W) (patterns : List Pattern) (n : ℕ) (p : Pattern) (input : InputParts)
     (i j : ℕ) → program.automaton.matcher ≡ (10, word_class) → slice_get patterns n ≡ Some p → is_wanted (pattern_of_mode input.anchored) n ≡ true
     → input.span.start ≤ i → j ≤ input.span.end → Goes (text_of input.haystack (chars word_class)) p i j
     → IsMatchIn patterns (search_in chars program input) (record { pattern = n; span = record { start = i; end = j } })
@@ -189,7 +191,8 @@ match_in {W = W} chars program word_class patterns n p input i j matcher its wan
 }
 
 -- and so is where the first of them goes in a whole haystack
-pub match_of : {W : Type 0} (chars : W → ℕ → Bool) (program : Compiled W) (word_class : W) (p : Pattern) (others : List Pattern) (haystack : List ℕ) (i j : ℕ)
+pub match_of : {W : Type 0}
+    (chars : W → ℕ → Bool) (program : Compiled W) (word_class : W) (p : Pattern) (others : List Pattern) (haystack : List ℕ) (i j : ℕ)
     → program.automaton.matcher ≡ (10, word_class) → j ≤ length haystack → Goes (text_of haystack (chars word_class)) p i j
     → IsMatchIn (p ∷ others) (search_in chars program (whole haystack)) (record { pattern = 0; span = record { start = i; end = j } })
 match_of chars program word_class p others haystack i j matcher within g =
@@ -205,7 +208,7 @@ pub may_be_next : {W : Type 0} (chars : W → ℕ → Bool) (program : Compiled 
 may_be_next chars program haystack i l = record { start = omega arith; end = l; anchored = λ other. absurd (other refl) }
 
 -- where no match came before, and the haystack isn't taken for text, none is left out
-pub none_left_out : (e : Search) (at : ℕ) → e.utf8 ≡ false → IsRepeated e None at ⊎ IsSplitAt e at → ⊥
+pub none_left_out : (e : Search) (at : ℕ) → e.utf8 ≡ false → IsRepeatAt e None at ⊎ IsSplitAt e at → ⊥
 none_left_out e at plain (inl r) = none_is_some (place r.run 0).1 r.repeats.there
   where
     none_is_some : (i : ℕ) → None ≡ Some i → ⊥

@@ -12,7 +12,8 @@ entries t = same_lists _ _ (length-map-range_with_len (slice_index t) 0 (length 
     get_or-map-range_with_len (slice_index t) 0 (length t) k k d lt (omega arith) ∙ get_or_default t k 0 d lt)
 
 -- before the first entry all are left
-pub these_left : (t members : List ℕ) (m : ℕ) {left : List ℕ} → left ≡ members → (0 + sum_by (slice_index t) left) % m ≡ sum_by (slice_index t) members % m
+pub these_left : (t members : List ℕ) (m : ℕ) {left : List ℕ} → left ≡ members
+    → (0 + sum_by (slice_index t) left) % m ≡ sum_by (slice_index t) members % m
 these_left t members m e = ap (λ n. n % m) (rw e (omega arith))
 
 -- at first all entries are left

@@ -13,7 +13,8 @@ use Rattle.rsc_uses.specs.Texts.{EndsPreferredWay}
 -- no pattern with a number below the given one goes on from the position
 abbrev pub NoneGoes : Subject → List Pattern → ℕ → ℕ → Type 0
 NoneGoes x patterns most at =
-    (number : ℕ) (pattern : Pattern) (to : ℕ) → number < most → slice_get patterns number ≡ Some pattern → to ≤ length x.haystack → ¬ (Goes x pattern at to)
+    (number : ℕ) (pattern : Pattern) (to : ℕ) → number < most → slice_get patterns number ≡ Some pattern → to ≤ length x.haystack
+    → ¬ (Goes x pattern at to)
 
 -- the token at a position: its pattern goes its preferred way from there to its end, which is the first one if its loops take bytes, and no earlier pattern
 -- goes on

@@ -18,7 +18,7 @@ pub fn find_run(
     last: u8,
     haystack: &[u8],
 ) -> Result<Option<(usize, usize)>, Error>
-    ensures some { IfOk result (λ found. IfSome found (λ ends. ends.0 < ends.1)) }
+    ensures found { IfOk result (λ found. IfSome found (λ ends. ends.0 < ends.1)) }
     ensures bytes { IfOk result (λ found. IfSome found (λ ends. (k : ℕ) → ends.0 ≤ k → k < ends.1 →
         IsTrue (is_between first last (slice_get haystack.now k)))) }
     ensures earlier { IfOk result (λ found. IfSome found (λ ends. (k : ℕ) → k < ends.0 → ¬ (IsTrue (is_between first last (slice_get haystack.now k))))) }

@@ -4,24 +4,24 @@ ghost use Rattle.rsc_search.specs.Matches.{Matched};
 ghost use Rattle.rsc_engine.specs.declared.error.Error.TheVariants.{OutOfMemory};
 ghost use Rattle.rsc_engine.specs.Searches.{search_in};
 ghost use Rattle.rsc_engine.specs.NextMatches.{AreAll};
-ghost use Rattle.rsc_engine.specs.Preferred.{HasNone, IsFirstMatch};
+ghost use Rattle.rsc_engine.specs.Preferred.{HasNoFirstMatch, IsFirstMatch};
 
 use rsc_captures::Captures;
-use rsc_engine::{AsciiWordClass, Cache, Dfa, Error, Matches, Program, find, laws};
+use rsc_engine::{AsciiCompatible, Cache, Dfa, Error, Matches, Program, find, laws};
 use rsc_look::WordClass;
 use rsc_search::{Input, Match, Span};
 use std::alloc::Global;
 
 /// The span of the first match, or `None` if no match begins where one may.
-pub fn first_span<W: WordClass + AsciiWordClass>(
+pub fn first_span<W: WordClass + AsciiCompatible>(
     alloc: Global,
     program: &Program<W>,
     input: &Input<'_>,
     captures: &mut Captures,
 ) -> Result<Option<Span>, Error>
-    ensures some { IfOk result (λ found. IfSome found (λ span.
+    ensures found { IfOk result (λ found. IfSome found (λ span.
         (first : Matched) × IsFirstMatch (search_in W.word_chars program.now input.now) captures.new first × (span ≡ first.span))) }
-    ensures none { IfOk result (λ found. IfNone found (HasNone (search_in W.word_chars program.now input.now))) }
+    ensures none { IfOk result (λ found. IfNone found (HasNoFirstMatch (search_in W.word_chars program.now input.now))) }
     ensures refused { IfErr result (λ e. e ≡ OutOfMemory) }
 {
     match find(alloc, program, input, captures)? {
@@ -31,7 +31,7 @@ pub fn first_span<W: WordClass + AsciiWordClass>(
 }
 
 /// Whether an input has a match, by a DFA and by `find`: they never differ.
-pub fn has_match_twice<W: WordClass + AsciiWordClass>(
+pub fn has_match_twice<W: WordClass + AsciiCompatible>(
     alloc: Global,
     program: &Program<W>,
     dfa: &mut Dfa<'_, W>,
@@ -40,10 +40,10 @@ pub fn has_match_twice<W: WordClass + AsciiWordClass>(
 ) -> Result<(bool, bool), Error>
     requires of_program { dfa.old ≡ program.now }
     ensures same { IfOk result (λ found. found.0 ≡ found.1) }
-    ensures none { IfOk result (λ found. found.1 ≡ false → HasNone (search_in W.word_chars program.now input.now)) }
+    ensures none { IfOk result (λ found. found.1 ≡ false → HasNoFirstMatch (search_in W.word_chars program.now input.now)) }
     ensures refused { IfErr result (λ e. e ≡ OutOfMemory) }
 {
-    laws::there_is_one_first_match();
+    laws::at_most_one_first_match();
     let by_table = dfa.is_match(input)?;
     match find(alloc, program, input, captures)? {
         None => Ok((by_table, false)),
@@ -52,7 +52,7 @@ pub fn has_match_twice<W: WordClass + AsciiWordClass>(
 }
 
 /// Where the leftmost match ends, by a DFA and by `find`: they never differ.
-pub fn leftmost_end_twice<W: WordClass + AsciiWordClass>(
+pub fn leftmost_end_twice<W: WordClass + AsciiCompatible>(
     alloc: Global,
     program: &Program<W>,
     dfa: &mut Dfa<'_, W>,
@@ -61,10 +61,10 @@ pub fn leftmost_end_twice<W: WordClass + AsciiWordClass>(
 ) -> Result<(Option<usize>, Option<usize>), Error>
     requires of_program { dfa.old ≡ program.now }
     ensures same { IfOk result (λ ends. ends.0 ≡ ends.1) }
-    ensures none { IfOk result (λ ends. IfNone ends.1 (HasNone (search_in W.word_chars program.now input.now))) }
+    ensures none { IfOk result (λ ends. IfNone ends.1 (HasNoFirstMatch (search_in W.word_chars program.now input.now))) }
     ensures refused { IfErr result (λ e. e ≡ OutOfMemory) }
 {
-    laws::there_is_one_first_match();
+    laws::at_most_one_first_match();
     let by_table = dfa.leftmost_end(input)?;
     match find(alloc, program, input, captures)? {
         None => Ok((by_table, None)),
@@ -73,7 +73,7 @@ pub fn leftmost_end_twice<W: WordClass + AsciiWordClass>(
 }
 
 /// The ends of the next two matches, of which the second is greater. `None` if there are no two: then the iteration is over, so it begins past its end.
-pub fn next_two_ends<W: WordClass + AsciiWordClass>(
+pub fn next_two_ends<W: WordClass + AsciiCompatible>(
     matches: &mut Matches<'_, '_, W>,
     captures: &mut Captures,
 ) -> Result<Option<(usize, usize)>, Error>
@@ -91,7 +91,7 @@ pub fn next_two_ends<W: WordClass + AsciiWordClass>(
 }
 
 /// All matches in an input. `all_over`'s loop ends, since each match ends after the one before it and within the span.
-pub fn all_matches<W: WordClass + AsciiWordClass>(
+pub fn all_matches<W: WordClass + AsciiCompatible>(
     alloc: Global,
     program: &Program<W>,
     input: Input<'_>,
@@ -105,7 +105,7 @@ pub fn all_matches<W: WordClass + AsciiWordClass>(
 }
 
 /// All matches in an input over a cache, which comes back for the next input.
-pub fn all_over<'p, 'h, W: WordClass + AsciiWordClass>(
+pub fn all_over<'p, 'h, W: WordClass + AsciiCompatible>(
     alloc: Global,
     cache: Cache<'p, W>,
     captures: &mut Captures,
@@ -127,7 +127,7 @@ pub fn all_over<'p, 'h, W: WordClass + AsciiWordClass>(
 }
 
 /// Whether two inputs have a match, over one cache.
-pub fn both_match<W: WordClass + AsciiWordClass>(
+pub fn both_match<W: WordClass + AsciiCompatible>(
     cache: &mut Cache<'_, W>,
     captures: &mut Captures,
     one: &Input<'_>,
@@ -135,12 +135,12 @@ pub fn both_match<W: WordClass + AsciiWordClass>(
 ) -> Result<bool, Error>
     ensures kept { cache.new ≡ cache.old }
     ensures not { IfOk result (λ both. both ≡ false →
-        HasNone (search_in W.word_chars cache.old one.now) ⊎ HasNone (search_in W.word_chars cache.old other.now)) }
+        HasNoFirstMatch (search_in W.word_chars cache.old one.now) ⊎ HasNoFirstMatch (search_in W.word_chars cache.old other.now)) }
     ensures both { IfOk result (λ both. both ≡ true →
-        (¬ (HasNone (search_in W.word_chars cache.old one.now))) × (¬ (HasNone (search_in W.word_chars cache.old other.now)))) }
+        (¬ (HasNoFirstMatch (search_in W.word_chars cache.old one.now))) × (¬ (HasNoFirstMatch (search_in W.word_chars cache.old other.now)))) }
     ensures refused { IfErr result (λ e. e ≡ OutOfMemory) }
 {
-    laws::there_is_one_first_match();
+    laws::at_most_one_first_match();
     match cache.find(one, captures)? {
         None => return Ok(false),
         Some(_) => {}

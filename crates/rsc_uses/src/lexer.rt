@@ -10,14 +10,14 @@ ghost use Rattle.rsc_uses.specs.Lexed.{AreLexed, AreLexedWith};
 ghost use Rattle.rsc_uses.specs.Texts.{text_of, GoesNowhere};
 
 use crate::engine::all_matches;
-use rsc_engine::{AsciiWordClass, Builder, Error, Matches, Part, find, laws};
+use rsc_engine::{AsciiCompatible, Builder, Error, Matches, Part, find, laws};
 use rsc_look::{AsciiWord, WordClass};
 use rsc_search::{Anchored, Input, Match, Span};
 use std::alloc::Global;
 
 /// The tokens of a text: each is of the first pattern that goes on from where the token before it ended, and ends where that pattern's preferred way does,
 /// which is its first end if its loops take bytes; and from the end of the last none goes on. No pattern may be empty.
-pub fn tokens_of<'n, W: WordClass + AsciiWordClass>(
+pub fn tokens_of<'n, W: WordClass + AsciiCompatible>(
     alloc: Global,
     word_class: W,
     builder: Builder<'n>,
@@ -39,7 +39,7 @@ pub fn tokens_of<'n, W: WordClass + AsciiWordClass>(
 }
 
 /// The tokens of a text as `tokens_of` finds them, each with the span of a group of its pattern: what the pattern's preferred way goes through last, or `None`.
-pub fn tokens_with_group<'n, W: WordClass + AsciiWordClass>(
+pub fn tokens_with_group<'n, W: WordClass + AsciiCompatible>(
     alloc: Global,
     word_class: W,
     builder: Builder<'n>,
@@ -75,14 +75,14 @@ pub fn tokens_with_group<'n, W: WordClass + AsciiWordClass>(
 }
 
 /// The tokens of a text in the patterns of a list and of a last part, as `tokens_of` finds them; `None` exactly if one of them may be empty.
-pub fn tokens_of_parts<'n, W: WordClass + AsciiWordClass>(
+pub fn tokens_of_parts<'n, W: WordClass + AsciiCompatible>(
     alloc: Global,
     word_class: W,
     parts: Vec<Part<'n>>,
     last: Part<'n>,
     text: &[u8],
 ) -> Result<Option<Vec<Match>>, Error>
-    ensures some { IfOk result (λ found. IfSome found (λ tokens.
+    ensures found { IfOk result (λ found. IfSome found (λ tokens.
         AreLexed (text_of text.now (W.word_chars word_class)) (map pattern_of parts.entry.items ++ pattern_of last.entry ∷ [])
         (map groups_of_pattern parts.entry.items ++ groups_of_pattern last.entry ∷ []) 0 tokens.items)) }
     ensures none { IfOk result (λ found. IsTrue (is_none found) ↔
@@ -94,7 +94,7 @@ pub fn tokens_of_parts<'n, W: WordClass + AsciiWordClass>(
         if part.may_be_empty() {
             return Ok(None);
         }
-        builder.pattern(part)?;
+        builder.add_pattern(part)?;
     }
     if last.may_be_empty() {
         return Ok(None);
@@ -111,9 +111,9 @@ pub fn letters_and_digits(alloc: Global, text: &[u8]) -> Result<Vec<Match>, Erro
 {
     let mut builder = Builder::new(alloc);
     let letters = builder.plus(builder.range(b'a', b'z'))?;
-    builder.pattern(letters)?;
+    builder.add_pattern(letters)?;
     let digits = builder.plus(builder.range(b'0', b'9'))?;
-    builder.pattern(digits)?;
+    builder.add_pattern(digits)?;
     let other = builder.range(0, 255);
     tokens_of(alloc, AsciiWord, builder, other, text)
 }
@@ -132,14 +132,14 @@ pub fn as_token<'n>(part: Part<'n>) -> Option<Part<'n>>
 }
 
 /// The bytes of a group of the first match of a part, if there is one and the group is set: a cut of that match. Group 0 is set if there is a match.
-pub fn bytes_of_group<'h, W: WordClass + AsciiWordClass>(
+pub fn bytes_of_group<'h, W: WordClass + AsciiCompatible>(
     alloc: Global,
     word_class: W,
     part: Part<'_>,
     group: usize,
     text: &'h [u8],
 ) -> Result<Option<&'h [u8]>, Error>
-    ensures some { IfOk result (λ found. IfSome found (λ bytes. (i s t j : ℕ) × (i ≤ s) × (s ≤ t) × (t ≤ j) × (j ≤ length text.now)
+    ensures found { IfOk result (λ found. IfSome found (λ bytes. (i s t j : ℕ) × (i ≤ s) × (s ≤ t) × (t ≤ j) × (j ≤ length text.now)
         × (bytes.now ≡ slice_range text.now s t)
         × Goes (text_of text.now (W.word_chars word_class)) (pattern_of part.entry) i j)) }
     ensures none { IfOk result (λ found. IfNone found (group ≡ 0 → GoesNowhere (text_of text.now (W.word_chars word_class)) (pattern_of part.entry))) }

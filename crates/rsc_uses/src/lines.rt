@@ -3,13 +3,13 @@ ghost use Rattle.std.specs.Prelude.{◌≡◌, IfOk, IfErr};
 ghost use Rattle.rsc_engine.specs.declared.error.Error.TheVariants.{OutOfMemory};
 ghost use Rattle.rsc_engine.specs.Lines.{AreLines};
 
-use rsc_engine::{AsciiWordClass, Dfa, Error, Lines};
+use rsc_engine::{AsciiCompatible, Dfa, Error, Lines};
 use rsc_look::WordClass;
 use rsc_search::Span;
 use std::alloc::Global;
 
 /// All lines in which a program matches, in order, by a DFA that comes back for the next text.
-pub fn all_lines<'p, W: WordClass + AsciiWordClass>(
+pub fn all_lines<'p, W: WordClass + AsciiCompatible>(
     alloc: Global,
     dfa: Dfa<'p, W>,
     text: &[u8],

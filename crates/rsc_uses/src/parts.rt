@@ -14,7 +14,7 @@ ghost use Rattle.rsc_engine.specs.Refusals.{FailsToBuild, RepeatsName};
 ghost use Rattle.rsc_uses.specs.Texts.{text_of, GoesNowhere, GoesNowhereBefore, GoesNowhereIn, HoldsFirstWay, HoldsPreferredWay, EndsPreferredWay};
 
 use rsc_captures::Captures;
-use rsc_engine::{AsciiWordClass, Builder, Dfa, Error, Matches, Part, Program, find, laws};
+use rsc_engine::{AsciiCompatible, Builder, Dfa, Error, Matches, Part, Program, find, laws};
 use rsc_look::{LookSet, WordClass};
 use rsc_search::{Input, Match, Span};
 use std::alloc::Global;
@@ -24,7 +24,7 @@ use std::alloc::Global;
 /// # Errors
 ///
 /// As [`Builder::build`].
-pub fn looks_of<W: WordClass + AsciiWordClass>(
+pub fn looks_of<W: WordClass + AsciiCompatible>(
     alloc: Global,
     word_class: W,
     part: Part<'_>,
@@ -42,13 +42,13 @@ pub fn looks_of<W: WordClass + AsciiWordClass>(
 /// # Errors
 ///
 /// As [`Builder::build`].
-pub fn find_part<W: WordClass + AsciiWordClass>(
+pub fn find_part<W: WordClass + AsciiCompatible>(
     alloc: Global,
     word_class: W,
     part: Part<'_>,
     haystack: &[u8],
 ) -> Result<Option<(usize, usize)>, Error>
-    ensures some { IfOk result (λ found. IfSome found (λ ends.
+    ensures found { IfOk result (λ found. IfSome found (λ ends.
         Goes (text_of haystack.now (W.word_chars word_class)) (pattern_of part.entry) ends.0 ends.1)) }
     ensures within { IfOk result (λ found. IfSome found (λ ends. ends.1 ≤ length haystack.now)) }
     ensures first { IfOk result (λ found. IfSome found (λ ends.
@@ -74,7 +74,7 @@ pub fn find_part<W: WordClass + AsciiWordClass>(
 
 /// The first match of a part, with captures whose first two slots hold where it starts and ends; so its group 0 has its span. The slots of all its groups hold
 /// what its preferred way records there; if the part's loops take bytes, that is its first way.
-pub fn find_with_slots<W: WordClass + AsciiWordClass>(
+pub fn find_with_slots<W: WordClass + AsciiCompatible>(
     alloc: Global,
     word_class: W,
     part: Part<'_>,
@@ -105,7 +105,7 @@ pub fn find_with_slots<W: WordClass + AsciiWordClass>(
 }
 
 /// The first match of a part, with its group 0, which has its span.
-pub fn find_with_group<W: WordClass + AsciiWordClass>(
+pub fn find_with_group<W: WordClass + AsciiCompatible>(
     alloc: Global,
     word_class: W,
     part: Part<'_>,
@@ -122,7 +122,7 @@ pub fn find_with_group<W: WordClass + AsciiWordClass>(
 }
 
 /// Where a part goes in the first match of it and of another part after it, whatever the two repeat. `None` if they go nowhere.
-pub fn find_before<'n, W: WordClass + AsciiWordClass>(
+pub fn find_before<'n, W: WordClass + AsciiCompatible>(
     alloc: Global,
     word_class: W,
     part: Part<'n>,
@@ -157,7 +157,7 @@ pub fn find_before<'n, W: WordClass + AsciiWordClass>(
 
 /// The first match of two parts, of which the first is preferred: the match is of the other one only if the first goes nowhere from its start. `None` if
 /// neither goes anywhere.
-pub fn first_of_two<'n, W: WordClass + AsciiWordClass>(
+pub fn first_of_two<'n, W: WordClass + AsciiCompatible>(
     alloc: Global,
     word_class: W,
     one: Part<'n>,
@@ -173,7 +173,7 @@ pub fn first_of_two<'n, W: WordClass + AsciiWordClass>(
     laws::a_first_match_is_of_a_pattern::<W>();
     laws::a_match_is_of_the_least_pattern::<W>();
     let mut builder = Builder::new(alloc);
-    builder.pattern(one)?;
+    builder.add_pattern(one)?;
     let program = builder.build(word_class, true, other)?;
     let mut captures = program.captures(alloc)?;
     let input = Input::new(haystack);
@@ -184,13 +184,13 @@ pub fn first_of_two<'n, W: WordClass + AsciiWordClass>(
 }
 
 /// Where the first match of an iteration is: the part goes there, and nowhere from an earlier position; `None` only if it goes nowhere.
-pub fn first_of_iteration<W: WordClass + AsciiWordClass>(
+pub fn first_of_iteration<W: WordClass + AsciiCompatible>(
     alloc: Global,
     word_class: W,
     part: Part<'_>,
     haystack: &[u8],
 ) -> Result<Option<(usize, usize)>, Error>
-    ensures some { IfOk result (λ found. IfSome found (λ ends.
+    ensures found { IfOk result (λ found. IfSome found (λ ends.
         Goes (text_of haystack.now (W.word_chars word_class)) (pattern_of part.entry) ends.0 ends.1)) }
     ensures within { IfOk result (λ found. IfSome found (λ ends. ends.1 ≤ length haystack.now)) }
     ensures first { IfOk result (λ found. IfSome found (λ ends.
@@ -211,7 +211,7 @@ pub fn first_of_iteration<W: WordClass + AsciiWordClass>(
 }
 
 /// Where the first match of an iteration is that leaves out empty matches within characters, of a part that takes a byte: of such a part it leaves out none.
-pub fn first_in_text<W: WordClass + AsciiWordClass>(
+pub fn first_in_text<W: WordClass + AsciiCompatible>(
     alloc: Global,
     word_class: W,
     part: Part<'_>,
@@ -239,7 +239,7 @@ pub fn first_in_text<W: WordClass + AsciiWordClass>(
 }
 
 /// A position to which a part goes, by a DFA: the earliest end.
-pub fn earliest_end_of_part<W: WordClass + AsciiWordClass>(
+pub fn earliest_end_of_part<W: WordClass + AsciiCompatible>(
     alloc: Global,
     word_class: W,
     part: Part<'_>,
@@ -262,7 +262,7 @@ pub fn earliest_end_of_part<W: WordClass + AsciiWordClass>(
 }
 
 /// The position to which the first match of a part goes: from the first position from which it goes anywhere, to the first end if its loops take bytes.
-pub fn leftmost_end_of_part<W: WordClass + AsciiWordClass>(
+pub fn leftmost_end_of_part<W: WordClass + AsciiCompatible>(
     alloc: Global,
     word_class: W,
     part: Part<'_>,

@@ -8,10 +8,10 @@ ghost use Rattle.rsc_engine.specs.NextMatches.{AreAll};
 ghost use Rattle.rsc_engine.specs.Parts.{pattern_of, groups_of_pattern};
 ghost use Rattle.rsc_engine.specs.Refusals.{IsErrorOf};
 ghost use Rattle.rsc_engine.specs.Sizes.{most_states};
-ghost use Rattle.rsc_replace.specs.PartReplacements.{IsPartReplaced, read_as_text};
+ghost use Rattle.rsc_replace.specs.PartReplacements.{IsPartReplaced, subject_of_text};
 ghost use Rattle.rsc_uses.specs.Masked.{masked, IsFirstMasked};
 
-use rsc_engine::{AsciiWordClass, Error, Part, Program};
+use rsc_engine::{AsciiCompatible, Error, Part, Program};
 use rsc_look::WordClass;
 use rsc_replace::{laws, replace_all, replace_part, replacen};
 use std::alloc::Global;
@@ -19,7 +19,7 @@ use std::alloc::Global;
 const MASK: [u8; 3] = [b'*', b'*', b'*'];
 
 /// The text with `***` where each match of a program is. The mask has no `$`, so whatever a match's groups are, it stands for itself.
-pub fn mask_all<W: WordClass + AsciiWordClass>(
+pub fn mask_all<W: WordClass + AsciiCompatible>(
     alloc: Global,
     program: &Program<W>,
     text: &[u8],
@@ -35,7 +35,7 @@ pub fn mask_all<W: WordClass + AsciiWordClass>(
 }
 
 /// The text with `***` where the first match of a program is; the text as it is, if there is no match.
-pub fn mask_first<W: WordClass + AsciiWordClass>(
+pub fn mask_first<W: WordClass + AsciiCompatible>(
     alloc: Global,
     program: &Program<W>,
     text: &[u8],
@@ -50,13 +50,13 @@ pub fn mask_first<W: WordClass + AsciiWordClass>(
 }
 
 /// The text with a space where each match of a part is.
-pub fn blank_out<W: WordClass + AsciiWordClass>(
+pub fn blank_out<W: WordClass + AsciiCompatible>(
     alloc: Global,
     word_class: W,
     part: Part<'_>,
     text: &[u8],
 ) -> Result<Vec<u8>, Error>
-    ensures replaced { IfOk result (λ out. IsPartReplaced (read_as_text text.now (W.word_chars word_class))
+    ensures replaced { IfOk result (λ out. IsPartReplaced (subject_of_text text.now (W.word_chars word_class))
         (groups_of_pattern part.entry) (pattern_of part.entry) (0x20 ∷ []) out.items) }
     ensures refused { IfErr result (IsErrorOf most_states (pattern_of part.entry ∷ []) (groups_of_pattern part.entry ∷ [])) }
 {

@@ -85,7 +85,7 @@ fn limited(rt: HostRuntime) -> Result<(), Fail> {
     let whole = builder.repeat(builder.range(b'a', b'a'), 1000, Some(1000))?;
     builder.limit_states(1003);
     let program = builder.build(AsciiWord, true, whole)?;
-    assert!(rt; program.len() == 1003);
+    assert!(rt; program.state_len() == 1003);
     Ok(())
 }
 
@@ -95,7 +95,7 @@ fn patterns(rt: HostRuntime) -> Result<(), Fail> {
     // The patterns `if` and [a-z]+, in this order.
     let mut builder = Builder::new(rt.alloc());
     let keyword = builder.literal(b"if")?;
-    builder.pattern(keyword)?;
+    builder.add_pattern(keyword)?;
     let letters = builder.plus(builder.range(b'a', b'z'))?;
     let program = builder.build(AsciiWord, true, letters)?;
     let mut captures = program.captures(rt.alloc())?;
@@ -187,7 +187,7 @@ fn ends(rt: HostRuntime) -> Result<(), Fail> {
     // [a-z]+, and \b, which looks at characters.
     let mut builder = Builder::new(rt.alloc());
     let letters = builder.plus(builder.range(b'a', b'z'))?;
-    builder.pattern(letters)?;
+    builder.add_pattern(letters)?;
     let boundary = builder.assertion(Look::WordUnicode);
     let program = builder.build(UnicodeWord, true, boundary)?;
     let mut dfa = Dfa::new(rt.alloc(), &program, 1000);
@@ -231,7 +231,7 @@ fn error(rt: HostRuntime) -> Result<(), Fail> {
 
 #[test]
 fn word_class(rt: HostRuntime) -> Result<(), Fail> {
-    // `AsciiWordClass`
+    // `AsciiCompatible`
     // The searches take a program over `UnicodeWord`, since it is such a predicate.
     let builder = Builder::new(rt.alloc());
     let start = builder.assertion(Look::WordStartUnicode);

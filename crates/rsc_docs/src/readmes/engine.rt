@@ -9,15 +9,15 @@ fn tokens(alloc: Global) -> Result<Program<AsciiWord>, Error> {
     let mut builder = Builder::new(alloc);
     let letters = builder.literal(b"if")?;
     let keyword = builder.then(letters, builder.assertion(Look::WordEndAscii))?;
-    builder.pattern(keyword)?;
+    builder.add_pattern(keyword)?;
     for text in ["==", "="] {
         let operator = builder.literal(text.as_bytes())?;
-        builder.pattern(operator)?;
+        builder.add_pattern(operator)?;
     }
     for (first, last) in [(b'a', b'z'), (b'0', b'9'), (b' ', b' ')] {
         let byte = builder.range(first, last);
         let bytes = builder.plus(byte)?;
-        builder.pattern(bytes)?;
+        builder.add_pattern(bytes)?;
     }
     let unknown = builder.range(0, 0xFF);
     builder.build(AsciiWord, true, unknown)

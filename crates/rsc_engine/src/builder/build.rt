@@ -42,7 +42,7 @@ impl<'n> Builder<'n> {
     /// // The patterns `if` and [a-z]+, in this order.
     /// let mut builder = Builder::new(rt.alloc());
     /// let keyword = builder.literal(b"if")?;
-    /// builder.pattern(keyword)?;
+    /// builder.add_pattern(keyword)?;
     /// let letters = builder.plus(builder.range(b'a', b'z'))?;
     /// let program = builder.build(AsciiWord, true, letters)?;
     /// let mut captures = program.captures(rt.alloc())?;
@@ -66,18 +66,18 @@ impl<'n> Builder<'n> {
         ensures preferred_ways { IfOk result (λ program. RecordsPreferredWays W.word_chars program (patterns_of self.entry ++ pattern_of last.entry ∷ [])) }
         ensures closes { IfOk result (λ program. ClosesGroups W.word_chars program) }
         ensures built { IfOk result (λ program. IsBuiltOf W.word_chars program (patterns_of self.entry ++ pattern_of last.entry ∷ [])) }
-        ensures text { IfOk result (λ program. program.utf8 ≡ utf8) }
+        ensures utf8 { IfOk result (λ program. program.utf8 ≡ utf8) }
         ensures matcher { IfOk result (λ program. program.automaton.matcher ≡ (10, word_class)) }
-        ensures names { OnOk result (¬ (RepeatsName (lists_of self.entry ++ groups_of_pattern last.entry ∷ []))) }
+        ensures names_differ { OnOk result (¬ (RepeatsName (lists_of self.entry ++ groups_of_pattern last.entry ∷ []))) }
         ensures looks { IfOk result (λ program. (look : Look) → list_any (asserts look) program.automaton.states
             ≡ list_any (asks look) (patterns_of self.entry ++ pattern_of last.entry ∷ [])) }
         ensures size { IfOk result (λ program. (length program.automaton.states ≡ size_of_program (patterns_of self.entry ++ pattern_of last.entry ∷ []))
             × (length program.automaton.states ≤ limit_of self.entry)) }
         ensures large { IsTrue (are_too_large (limit_of self.entry) (patterns_of self.entry ++ pattern_of last.entry ∷ [])
             (lists_of self.entry ++ groups_of_pattern last.entry ∷ [])) → result ≡ Err TooLarge }
-        ensures error { IfErr result (IsErrorOf (limit_of self.entry) (patterns_of self.entry ++ pattern_of last.entry ∷ [])
+        ensures refused { IfErr result (IsErrorOf (limit_of self.entry) (patterns_of self.entry ++ pattern_of last.entry ∷ [])
             (lists_of self.entry ++ groups_of_pattern last.entry ∷ [])) }
-        ensures refused { IfErr result (FailsToBuild (lists_of self.entry ++ groups_of_pattern last.entry ∷ [])) }
+        ensures fails { IfErr result (FailsToBuild (lists_of self.entry ++ groups_of_pattern last.entry ∷ [])) }
     {
         self.build_with(LookMatcher::new(word_class), utf8, last)
     }
@@ -104,23 +104,23 @@ impl<'n> Builder<'n> {
         ensures preferred_ways { IfOk result (λ program. RecordsPreferredWays W.word_chars program (patterns_of self.entry ++ pattern_of last.entry ∷ [])) }
         ensures closes { IfOk result (λ program. ClosesGroups W.word_chars program) }
         ensures built { IfOk result (λ program. IsBuiltOf W.word_chars program (patterns_of self.entry ++ pattern_of last.entry ∷ [])) }
-        ensures text { IfOk result (λ program. program.utf8 ≡ utf8) }
+        ensures utf8 { IfOk result (λ program. program.utf8 ≡ utf8) }
         ensures matcher { IfOk result (λ program. program.automaton.matcher ≡ matcher) }
-        ensures names { OnOk result (¬ (RepeatsName (lists_of self.entry ++ groups_of_pattern last.entry ∷ []))) }
+        ensures names_differ { OnOk result (¬ (RepeatsName (lists_of self.entry ++ groups_of_pattern last.entry ∷ []))) }
         ensures looks { IfOk result (λ program. (look : Look) → list_any (asserts look) program.automaton.states
             ≡ list_any (asks look) (patterns_of self.entry ++ pattern_of last.entry ∷ [])) }
         ensures size { IfOk result (λ program. (length program.automaton.states ≡ size_of_program (patterns_of self.entry ++ pattern_of last.entry ∷ []))
             × (length program.automaton.states ≤ limit_of self.entry)) }
         ensures large { IsTrue (are_too_large (limit_of self.entry) (patterns_of self.entry ++ pattern_of last.entry ∷ [])
             (lists_of self.entry ++ groups_of_pattern last.entry ∷ [])) → result ≡ Err TooLarge }
-        ensures error { IfErr result (IsErrorOf (limit_of self.entry) (patterns_of self.entry ++ pattern_of last.entry ∷ [])
+        ensures refused { IfErr result (IsErrorOf (limit_of self.entry) (patterns_of self.entry ++ pattern_of last.entry ∷ [])
             (lists_of self.entry ++ groups_of_pattern last.entry ∷ [])) }
-        ensures refused { IfErr result (FailsToBuild (lists_of self.entry ++ groups_of_pattern last.entry ∷ [])) }
+        ensures fails { IfErr result (FailsToBuild (lists_of self.entry ++ groups_of_pattern last.entry ∷ [])) }
     {
         if are_too_large(self.limit, self.patterns.as_slice(), &last) {
             return Err(Error::TooLarge);
         }
-        self.pattern(last)?;
+        self.add_pattern(last)?;
         let info = info_of(self.alloc, self.patterns.as_slice())?;
         let (states, first) = compile(self.alloc, &info, self.patterns.as_slice())?;
         match Nfa::new(self.alloc, info, matcher, &states) {

@@ -11,7 +11,7 @@ ghost use Rattle.rsc_engine.specs.GroupNumbers.{count_groups};
 ghost use Rattle.rsc_engine.specs.LinksLayout.{Adds, Builds, BuildsPart, IsAdded, slots_between};
 ghost use Rattle.rsc_engine.specs.BeginsLayout.{Begins, IsOfOne, IsOfSome};
 ghost use Rattle.rsc_engine.specs.FirstsLayout.{OrdersOne, OrdersSome};
-ghost use Rattle.rsc_engine.specs.NamesLayout.{asked_by, some_ask, AreSoundIn};
+ghost use Rattle.rsc_engine.specs.StatesLayout.{asked_by, some_ask, AreSoundIn};
 
 use super::Part;
 use super::tree::Tree;
@@ -31,7 +31,7 @@ pub(crate) struct States {
 pub(crate) struct Compiler {
     pub(crate) list: States,
     // How many of the pattern's groups open before the next part ends. It decides which slots a group has.
-    pub(crate) left: usize,
+    pub(crate) unnumbered: usize,
 }
 
 /// Which slots the groups of a pattern have.
@@ -82,7 +82,7 @@ pub(crate) fn compile(
         list: States {
             states: Vec::new(alloc),
         },
-        left: 0,
+        unnumbered: 0,
     };
     let last = info.pattern_len() - 1;
     let mut first = compiler.pattern(info, last, &patterns[last])?;
@@ -92,7 +92,7 @@ pub(crate) fn compile(
     }
     let Compiler {
         list: States { states },
-        left: _,
+        unnumbered: _,
     } = compiler;
     Ok((states, first))
 }
@@ -117,7 +117,7 @@ impl Compiler {
         let pattern = PatternID::must(index);
         let slots = Slots { info, pattern };
         let (start, end) = slots.of_group(0);
-        self.left = info.group_len(pattern);
+        self.unnumbered = info.group_len(pattern);
         let accept = self.list.add(State::Accept { pattern })?;
         let after = self.list.add(State::Capture {
             slot: end,
@@ -139,10 +139,10 @@ impl Compiler {
         next: StateID,
     ) -> Result<StateID, AllocError>
         requires room { length self.old.list.states.items + size_of (pattern_in tree.now) ≤ most_states }
-        requires left { count_groups (pattern_in tree.now) < self.old.left }
-        requires groups { self.old.left ≤ group_count slots.now.info.now slots.now.pattern }
+        requires unnumbered { count_groups (pattern_in tree.now) < self.old.unnumbered }
+        requires groups { self.old.unnumbered ≤ group_count slots.now.info.now slots.now.pattern }
         ensures { IfOk result (λ first. BuildsPart (slot_number slots.now.info.now slots.now.pattern) (slots_between slots.now.info.now slots.now.pattern)
-            self.old.left self.new.left self.old.list.states.items self.new.list.states.items first next (pattern_in tree.now)) }
+            self.old.unnumbered self.new.unnumbered self.old.list.states.items self.new.list.states.items first next (pattern_in tree.now)) }
     {
         match tree {
             Tree::Empty => Ok(next),
@@ -175,10 +175,10 @@ impl Compiler {
         next: StateID,
     ) -> Result<StateID, AllocError>
         requires room { length self.old.list.states.items + size_of (in_order (map pattern_in parts.now)) ≤ most_states }
-        requires left { count_groups (in_order (map pattern_in parts.now)) < self.old.left }
-        requires groups { self.old.left ≤ group_count slots.now.info.now slots.now.pattern }
+        requires unnumbered { count_groups (in_order (map pattern_in parts.now)) < self.old.unnumbered }
+        requires groups { self.old.unnumbered ≤ group_count slots.now.info.now slots.now.pattern }
         ensures { IfOk result (λ first. BuildsPart (slot_number slots.now.info.now slots.now.pattern) (slots_between slots.now.info.now slots.now.pattern)
-            self.old.left self.new.left self.old.list.states.items self.new.list.states.items first next (in_order (map pattern_in parts.now))) }
+            self.old.unnumbered self.new.unnumbered self.old.list.states.items self.new.list.states.items first next (in_order (map pattern_in parts.now))) }
     {
         let mut first = next;
         for index in (0..parts.len()).rev() {
@@ -195,10 +195,10 @@ impl Compiler {
         next: StateID,
     ) -> Result<StateID, AllocError>
         requires room { length self.old.list.states.items + size_of (one_of (map pattern_in parts.now)) ≤ most_states }
-        requires left { count_groups (one_of (map pattern_in parts.now)) < self.old.left }
-        requires groups { self.old.left ≤ group_count slots.now.info.now slots.now.pattern }
+        requires unnumbered { count_groups (one_of (map pattern_in parts.now)) < self.old.unnumbered }
+        requires groups { self.old.unnumbered ≤ group_count slots.now.info.now slots.now.pattern }
         ensures { IfOk result (λ first. BuildsPart (slot_number slots.now.info.now slots.now.pattern) (slots_between slots.now.info.now slots.now.pattern)
-            self.old.left self.new.left self.old.list.states.items self.new.list.states.items first next (one_of (map pattern_in parts.now))) }
+            self.old.unnumbered self.new.unnumbered self.old.list.states.items self.new.list.states.items first next (one_of (map pattern_in parts.now))) }
     {
         if parts.is_empty() {
             return self.list.never(next);
@@ -216,10 +216,10 @@ impl Compiler {
     #[cycle(part)]
     fn group(&mut self, slots: &Slots<'_>, sub: &Tree, next: StateID) -> Result<StateID, AllocError>
         requires room { length self.old.list.states.items + size_of (Group 0 (pattern_in sub.now)) ≤ most_states }
-        requires left { count_groups (Group 0 (pattern_in sub.now)) < self.old.left }
-        requires groups { self.old.left ≤ group_count slots.now.info.now slots.now.pattern }
+        requires unnumbered { count_groups (Group 0 (pattern_in sub.now)) < self.old.unnumbered }
+        requires groups { self.old.unnumbered ≤ group_count slots.now.info.now slots.now.pattern }
         ensures { IfOk result (λ first. BuildsPart (slot_number slots.now.info.now slots.now.pattern) (slots_between slots.now.info.now slots.now.pattern)
-            self.old.left self.new.left self.old.list.states.items self.new.list.states.items first next (Group 0 (pattern_in sub.now))) }
+            self.old.unnumbered self.new.unnumbered self.old.list.states.items self.new.list.states.items first next (Group 0 (pattern_in sub.now))) }
     {
         // Its slots are known once its inner groups have theirs, since states are made from the last part on.
         let after = self.list.add(State::Capture {
@@ -227,8 +227,8 @@ impl Compiler {
             next,
         })?;
         let body = self.part(slots, sub, after)?;
-        self.left -= 1;
-        let (start, end) = slots.of_group(self.left);
+        self.unnumbered -= 1;
+        let (start, end) = slots.of_group(self.unnumbered);
         self.list.states[after.as_usize()] = State::Capture { slot: end, next };
         self.list.add(State::Capture {
             slot: start,

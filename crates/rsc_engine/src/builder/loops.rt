@@ -25,10 +25,10 @@ impl Compiler {
         next: StateID,
     ) -> Result<StateID, AllocError>
         requires room { length self.old.list.states.items + size_of (Repeat times.min times.max times.is_greedy (pattern_in sub.now)) ≤ most_states }
-        requires left { count_groups (pattern_in sub.now) < self.old.left }
-        requires groups { self.old.left ≤ group_count slots.now.info.now slots.now.pattern }
+        requires unnumbered { count_groups (pattern_in sub.now) < self.old.unnumbered }
+        requires groups { self.old.unnumbered ≤ group_count slots.now.info.now slots.now.pattern }
         ensures { IfOk result (λ first. BuildsPart (slot_number slots.now.info.now slots.now.pattern) (slots_between slots.now.info.now slots.now.pattern)
-            self.old.left self.new.left self.old.list.states.items self.new.list.states.items first next
+            self.old.unnumbered self.new.unnumbered self.old.list.states.items self.new.list.states.items first next
             (Repeat times.min times.max times.is_greedy (pattern_in sub.now))) }
     {
         match times.max {
@@ -47,21 +47,21 @@ impl Compiler {
         next: StateID,
     ) -> Result<StateID, AllocError>
         requires room { length self.old.list.states.items + size_of (Repeat times.min None times.is_greedy (pattern_in sub.now)) ≤ most_states }
-        requires left { count_groups (pattern_in sub.now) < self.old.left }
-        requires groups { self.old.left ≤ group_count slots.now.info.now slots.now.pattern }
+        requires unnumbered { count_groups (pattern_in sub.now) < self.old.unnumbered }
+        requires groups { self.old.unnumbered ≤ group_count slots.now.info.now slots.now.pattern }
         ensures { IfOk result (λ first. BuildsPart (slot_number slots.now.info.now slots.now.pattern) (slots_between slots.now.info.now slots.now.pattern)
-            self.old.left self.new.left self.old.list.states.items self.new.list.states.items first next
+            self.old.unnumbered self.new.unnumbered self.old.list.states.items self.new.list.states.items first next
             (Repeat times.min None times.is_greedy (pattern_in sub.now))) }
     {
         if times.min == 0 {
             return self.star(slots, times, sub, next);
         }
-        let left = self.left;
+        let unnumbered = self.unnumbered;
         let (last, _) = self.again(slots, times.is_greedy, sub, next)?;
         if times.min == 1 {
             return Ok(last);
         }
-        self.left = left;
+        self.unnumbered = unnumbered;
         self.copies(slots, times.min - 1, sub, last)
     }
 
@@ -76,10 +76,10 @@ impl Compiler {
         next: StateID,
     ) -> Result<StateID, AllocError>
         requires room { length self.old.list.states.items + size_of (Repeat times.min (Some max) times.is_greedy (pattern_in sub.now)) ≤ most_states }
-        requires left { count_groups (pattern_in sub.now) < self.old.left }
-        requires groups { self.old.left ≤ group_count slots.now.info.now slots.now.pattern }
+        requires unnumbered { count_groups (pattern_in sub.now) < self.old.unnumbered }
+        requires groups { self.old.unnumbered ≤ group_count slots.now.info.now slots.now.pattern }
         ensures { IfOk result (λ first. BuildsPart (slot_number slots.now.info.now slots.now.pattern) (slots_between slots.now.info.now slots.now.pattern)
-            self.old.left self.new.left self.old.list.states.items self.new.list.states.items first next
+            self.old.unnumbered self.new.unnumbered self.old.list.states.items self.new.list.states.items first next
             (Repeat times.min (Some max) times.is_greedy (pattern_in sub.now))) }
     {
         let more = max.saturating_sub(times.min);
@@ -89,20 +89,20 @@ impl Compiler {
             }
             return self.up_to(slots, more, times.is_greedy, sub, next);
         }
-        let left = self.left;
+        let unnumbered = self.unnumbered;
         let rest = self.up_to(slots, more, times.is_greedy, sub, next)?;
-        self.left = left;
+        self.unnumbered = unnumbered;
         self.copies(slots, times.min, sub, rest)
     }
 
     // The part no times: it has no states, but its groups have their numbers.
     fn no_times(&mut self, slots: &Slots<'_>, times: Times, sub: &Tree, next: StateID) -> StateID
-        requires { count_groups (pattern_in sub.now) < self.old.left }
+        requires { count_groups (pattern_in sub.now) < self.old.unnumbered }
         ensures { BuildsPart (slot_number slots.now.info.now slots.now.pattern) (slots_between slots.now.info.now slots.now.pattern)
-            self.old.left self.new.left self.old.list.states.items self.new.list.states.items result next
+            self.old.unnumbered self.new.unnumbered self.old.list.states.items self.new.list.states.items result next
             (Repeat 0 (Some 0) times.is_greedy (pattern_in sub.now)) }
     {
-        self.left = groups_left(sub, self.left);
+        self.unnumbered = groups_left(sub, self.unnumbered);
         next
     }
 
@@ -116,16 +116,17 @@ impl Compiler {
         next: StateID,
     ) -> Result<StateID, AllocError>
         requires room { length self.old.list.states.items + size_of (copies count (pattern_in sub.now)) ≤ most_states }
-        requires left { count_groups (pattern_in sub.now) < self.old.left }
-        requires groups { self.old.left ≤ group_count slots.now.info.now slots.now.pattern }
+        requires unnumbered { count_groups (pattern_in sub.now) < self.old.unnumbered }
+        requires groups { self.old.unnumbered ≤ group_count slots.now.info.now slots.now.pattern }
         ensures { IfOk result (λ first. BuildsCopies (slot_number slots.now.info.now slots.now.pattern) (slots_between slots.now.info.now slots.now.pattern)
-            self.old.left self.new.left self.old.list.states.items self.new.list.states.items first next count (copies count) (pattern_in sub.now)) }
+            self.old.unnumbered self.new.unnumbered self.old.list.states.items self.new.list.states.items
+            first next count (copies count) (pattern_in sub.now)) }
     {
-        let left = self.left;
+        let unnumbered = self.unnumbered;
         let mut first = next;
         // The proof needs a name for the number of copies so far.
         for done in 0..count {
-            self.left = left;
+            self.unnumbered = unnumbered;
             first = self.part(slots, sub, first)?;
         }
         Ok(first)
@@ -142,16 +143,16 @@ impl Compiler {
         next: StateID,
     ) -> Result<StateID, AllocError>
         requires room { length self.old.list.states.items + size_of (up_to is_greedy count (pattern_in sub.now)) ≤ most_states }
-        requires left { count_groups (pattern_in sub.now) < self.old.left }
-        requires groups { self.old.left ≤ group_count slots.now.info.now slots.now.pattern }
+        requires unnumbered { count_groups (pattern_in sub.now) < self.old.unnumbered }
+        requires groups { self.old.unnumbered ≤ group_count slots.now.info.now slots.now.pattern }
         ensures { IfOk result (λ first. BuildsCopies (slot_number slots.now.info.now slots.now.pattern) (slots_between slots.now.info.now slots.now.pattern)
-            self.old.left self.new.left self.old.list.states.items self.new.list.states.items first next count (up_to is_greedy count)
+            self.old.unnumbered self.new.unnumbered self.old.list.states.items self.new.list.states.items first next count (up_to is_greedy count)
             (pattern_in sub.now)) }
     {
-        let left = self.left;
+        let unnumbered = self.unnumbered;
         let mut first = next;
         for done in 0..count {
-            self.left = left;
+            self.unnumbered = unnumbered;
             let one = self.part(slots, sub, first)?;
             first = self.list.add(choice(is_greedy, one, next))?;
         }
@@ -168,10 +169,10 @@ impl Compiler {
         next: StateID,
     ) -> Result<StateID, AllocError>
         requires room { length self.old.list.states.items + size_of (Repeat 0 None times.is_greedy (pattern_in sub.now)) ≤ most_states }
-        requires left { count_groups (pattern_in sub.now) < self.old.left }
-        requires groups { self.old.left ≤ group_count slots.now.info.now slots.now.pattern }
+        requires unnumbered { count_groups (pattern_in sub.now) < self.old.unnumbered }
+        requires groups { self.old.unnumbered ≤ group_count slots.now.info.now slots.now.pattern }
         ensures { IfOk result (λ first. BuildsPart (slot_number slots.now.info.now slots.now.pattern) (slots_between slots.now.info.now slots.now.pattern)
-            self.old.left self.new.left self.old.list.states.items self.new.list.states.items first next
+            self.old.unnumbered self.new.unnumbered self.old.list.states.items self.new.list.states.items first next
             (Repeat 0 None times.is_greedy (pattern_in sub.now))) }
     {
         let (first, again) = self.again(slots, times.is_greedy, sub, next)?;
@@ -192,13 +193,15 @@ impl Compiler {
         next: StateID,
     ) -> Result<(StateID, StateID), AllocError>
         requires room { length self.old.list.states.items + size_of (Repeat 1 None is_greedy (pattern_in sub.now)) ≤ most_states }
-        requires left { count_groups (pattern_in sub.now) < self.old.left }
-        requires groups { self.old.left ≤ group_count slots.now.info.now slots.now.pattern }
+        requires unnumbered { count_groups (pattern_in sub.now) < self.old.unnumbered }
+        requires groups { self.old.unnumbered ≤ group_count slots.now.info.now slots.now.pattern }
         ensures first { IfOk result (λ made. BuildsPart (slot_number slots.now.info.now slots.now.pattern) (slots_between slots.now.info.now slots.now.pattern)
-            self.old.left self.new.left self.old.list.states.items self.new.list.states.items made.0 next (Repeat 1 None is_greedy (pattern_in sub.now))) }
+            self.old.unnumbered self.new.unnumbered self.old.list.states.items self.new.list.states.items
+            made.0 next (Repeat 1 None is_greedy (pattern_in sub.now))) }
         ensures again { IfOk result (λ made. patterns.may_be_empty (pattern_in sub.now) ≡ false →
             BuildsPart (slot_number slots.now.info.now slots.now.pattern) (slots_between slots.now.info.now slots.now.pattern)
-            self.old.left self.new.left self.old.list.states.items self.new.list.states.items made.1 next (Repeat 0 None is_greedy (pattern_in sub.now))) }
+            self.old.unnumbered self.new.unnumbered self.old.list.states.items self.new.list.states.items
+            made.1 next (Repeat 0 None is_greedy (pattern_in sub.now))) }
     {
         // What it leads to isn't known yet.
         let again = self.list.fork(next, next)?;

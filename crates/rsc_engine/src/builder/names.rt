@@ -27,7 +27,7 @@ pub(crate) fn joined<'n>(
 pub(crate) fn info_of(alloc: Global, patterns: &[Part<'_>]) -> Result<GroupInfo, Error>
     requires { 2 * all_groups (map groups_of_pattern patterns.now) ≤ max_index }
     ensures groups { IfOk result (λ info. info ≡ map groups_of_pattern patterns.now) }
-    ensures names { OnOk result (¬ (RepeatsName (map groups_of_pattern patterns.now))) }
+    ensures names_differ { OnOk result (¬ (RepeatsName (map groups_of_pattern patterns.now))) }
     ensures refused { IfErr result (λ e. (e ≡ OutOfMemory) ⊎ ((e ≡ RepeatedName) × RepeatsName (map groups_of_pattern patterns.now))) }
 {
     let mut all = Vec::new(alloc);

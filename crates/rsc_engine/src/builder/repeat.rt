@@ -35,7 +35,7 @@ impl<'n> Builder<'n> {
         self.times(part, 0, Some(1), false)
     }
 
-    /// The part any number of times, greedy: once more is preferred. Of a part that may match no byte it is `(part+)?`, as in the original.
+    /// The part any number of times, greedy: once more is preferred. Of a part that may match no byte it is `(part+)?`.
     ///
     /// # Errors
     ///

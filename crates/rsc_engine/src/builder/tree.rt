@@ -11,7 +11,7 @@ use rsc_look::Look;
 pub(crate) enum Tree {
     /// No byte.
     Empty,
-    /// What never matches, not even no byte.
+    /// What never matches, not even the empty string.
     Never,
     /// A byte from the one to the other.
     Range(u8, u8),

@@ -5,7 +5,7 @@ ghost use Rattle.std.specs.Prelude.{◌≡◌, ◌+◌, ◌<◌, ◌≤◌, ℕ,
 ghost use Rattle.rsc_search.specs.declared.anchored.Anchored.TheVariants.{No};
 ghost use Rattle.rsc_engine.specs.declared.error.Error.TheVariants.{OutOfMemory};
 ghost use Rattle.rsc_engine.specs.Searches.{search_in};
-ghost use Rattle.rsc_engine.specs.Preferred.{IsFirstMatch, HasNone, IsCleared};
+ghost use Rattle.rsc_engine.specs.Preferred.{IsFirstMatch, HasNoFirstMatch, IsCleared};
 ghost use Rattle.rsc_engine.specs.ArrivalsLayout.{Arrives};
 ghost use Rattle.rsc_engine.specs.LogLayout.{IsLogged};
 ghost use Rattle.rsc_engine.specs.AheadLayout.{IsNextBegin, HasNoBegin, IsMatchAt, start_at};
@@ -15,7 +15,7 @@ use super::along::{Walk, record_along};
 use super::backward::{go_back, part_of};
 use super::pass_table::PassTable;
 use super::plan::Plan;
-use crate::{AsciiWordClass, Error, Program};
+use crate::{AsciiCompatible, Error, Program};
 use rsc_captures::Captures;
 use rsc_look::WordClass;
 use rsc_search::{Input, Match, Span};
@@ -36,16 +36,16 @@ pub(crate) struct Ahead<'p, 'h, W: WordClass> {
 impl<'p, 'h, W: WordClass> Model for Ahead<'p, 'h, W> {
     ghost use Rattle.rsc_engine.specs.Searches.{search_in};
     ghost use Rattle.rsc_engine.specs.LogLayout.{IsLogged};
-    ghost use Rattle.rsc_engine.specs.AheadLayout.{Whole};
+    ghost use Rattle.rsc_engine.specs.AheadLayout.{AheadOf};
 
-    ghost Value = { Whole W };
+    ghost Value = { AheadOf W };
 
     ghost view = { λ a. record { program = a.program.now; input = a.input } };
 
     ghost invariant = { λ a. IsLogged (search_in W.word_chars a.program.now a.input) a.input.span.start a.table.rows.items a.log.items };
 }
 
-impl<'p, 'h, W: WordClass + AsciiWordClass> Ahead<'p, 'h, W> {
+impl<'p, 'h, W: WordClass + AsciiCompatible> Ahead<'p, 'h, W> {
     /// The matches of an input's span, by one pass over it.
     pub(crate) fn of(
         alloc: Global,
@@ -56,7 +56,7 @@ impl<'p, 'h, W: WordClass + AsciiWordClass> Ahead<'p, 'h, W> {
         ensures made { IfOk result (λ a. search_in W.word_chars a.program a.input ≡ search_in W.word_chars program.now input.now) }
         ensures refused { IfErr result (λ e. e ≡ OutOfMemory) }
     {
-        if program.len() > MOST_NUMBERED {
+        if program.state_len() > MOST_NUMBERED {
             // Only states that have numbers are gone back through.
             return Err(Error::OutOfMemory);
         }
@@ -84,14 +84,14 @@ impl<'p, 'h, W: WordClass + AsciiWordClass> Ahead<'p, 'h, W> {
         ensures kept { self.new ≡ self.old }
         ensures found { IfOk result (λ found. IfSome found
             (IsFirstMatch (start_at (search_in W.word_chars self.old.program self.old.input) from) captures.new)) }
-        ensures none { IfOk result (λ found. IfNone found (HasNone (start_at (search_in W.word_chars self.old.program self.old.input) from))) }
+        ensures none { IfOk result (λ found. IfNone found (HasNoFirstMatch (start_at (search_in W.word_chars self.old.program self.old.input) from))) }
         ensures start { IfOk result (λ found. IfSome found (λ m. from ≤ m.span.start)) }
         ensures order { IfOk result (λ found. IfSome found (λ m. m.span.start ≤ m.span.end)) }
         ensures end { IfOk result (λ found. IfSome found (λ m. m.span.end ≤ self.old.input.span.end)) }
-        ensures groups { captures.new.groups ≡ captures.old.groups }
-        ensures slots { length captures.new.offsets ≡ length captures.old.offsets }
-        ensures unset { IfOk result (λ found. IfNone found (IsCleared captures.old captures.new)) }
-        ensures failed { OnErr result (IsCleared captures.old captures.new) }
+        ensures kept_groups { captures.new.groups ≡ captures.old.groups }
+        ensures kept_slots { length captures.new.offsets ≡ length captures.old.offsets }
+        ensures cleared { IfOk result (λ found. IfNone found (IsCleared captures.old captures.new)) }
+        ensures cleared_by_error { OnErr result (IsCleared captures.old captures.new) }
         ensures refused { IfErr result (λ e. e ≡ OutOfMemory) }
     {
         captures.clear();
@@ -151,7 +151,7 @@ impl<'p, 'h, W: WordClass + AsciiWordClass> Ahead<'p, 'h, W> {
     }
 }
 
-// The match that begins at a position. Its groups are in the captures afterwards, which are empty before.
+// The match that begins at a position. Its groups are in the captures afterwards, in which no slot is set before.
 fn match_at<W: WordClass>(
     walk: &mut Walk,
     program: &Program<W>,
@@ -167,9 +167,9 @@ fn match_at<W: WordClass>(
     ensures found { IfOk result (IsMatchAt (search_in W.word_chars program.now input.now) start captures.new) }
     ensures order { IfOk result (λ m. m.span.start ≤ m.span.end) }
     ensures end { IfOk result (λ m. m.span.end ≤ input.now.span.end) }
-    ensures groups { captures.new.groups ≡ captures.old.groups }
-    ensures slots { length captures.new.offsets ≡ length captures.old.offsets }
-    ensures failed { OnErr result (IsCleared captures.old captures.new) }
+    ensures kept_groups { captures.new.groups ≡ captures.old.groups }
+    ensures kept_slots { length captures.new.offsets ≡ length captures.old.offsets }
+    ensures cleared_by_error { OnErr result (IsCleared captures.old captures.new) }
     ensures refused { IfErr result (λ e. e ≡ OutOfMemory) }
 {
     let recorded = record_along(

@@ -20,14 +20,14 @@ ghost use Rattle.rsc_engine.specs.PassTableLayout.{IsPassTable};
 ghost use Rattle.rsc_engine.specs.BackwardLayout.{Lists};
 ghost use Rattle.rsc_engine.specs.LogLayout.{IsLogged};
 ghost use Rattle.rsc_engine.specs.QuietLayout.{AreQuiet};
-ghost use Rattle.rsc_engine.specs.AlongLayout.{GoesTo, IsRecorded, AreRecordsTo, IsLed, IsWayAlong, LeadsAlong, AreBelow, all_at};
+ghost use Rattle.rsc_engine.specs.AlongLayout.{GoesTo, IsRecorded, AreRecordsTo, IsLed, IsActionAlong, LeadsAlong, AreBelow, all_at};
 
 use super::backward::{first_start, part_of};
-use super::ordered::{Way, way_of};
+use super::ordered::{Action, action_of};
 use super::pass_table::PassTable;
 use super::plan::Plan;
 use super::quiet::is_quiet;
-use super::whole::{is_whole, match_whole, set_slot};
+use super::whole::{match_whole, records_only_ends, set_slot};
 use crate::{Error, Program};
 use rsc_captures::Captures;
 use rsc_look::WordClass;
@@ -36,7 +36,7 @@ use rsc_primitives::{NonMaxUsize, PatternID, StateID};
 use rsc_search::{Input, Match, Span};
 use std::alloc::Global;
 
-/// The leftmost-first match, which is of a pattern and ends at a position. Its groups are in the captures afterwards, which are empty before.
+/// The leftmost-first match, which is of a pattern and ends at a position. Its groups are in the captures afterwards, in which no slot is set before.
 pub(crate) fn match_along<W: WordClass>(
     plan: &Plan<'_, W>,
     table: &mut PassTable,
@@ -60,12 +60,12 @@ pub(crate) fn match_along<W: WordClass>(
         table.new.rows.items table.new.leads.items table.new.beyond.items }
     ensures found { IfOk result (IsFirstMatch (search_in W.word_chars plan.now.program.now input.now) captures.new) }
     ensures within { IfOk result (IsInSpan input.now) }
-    ensures groups { captures.new.groups ≡ captures.old.groups }
-    ensures slots { length captures.new.offsets ≡ length captures.old.offsets }
-    ensures failed { OnErr result (IsCleared captures.old captures.new) }
+    ensures kept_groups { captures.new.groups ≡ captures.old.groups }
+    ensures kept_slots { length captures.new.offsets ≡ length captures.old.offsets }
+    ensures cleared_by_error { OnErr result (IsCleared captures.old captures.new) }
     ensures refused { IfErr result (λ e. e ≡ OutOfMemory) }
 {
-    if is_whole(plan.program, captures) {
+    if records_only_ends(plan.program, captures) {
         return match_whole(plan, table, log, input, pattern, end, captures);
     }
     let start = first_start(plan, table, input, pattern, end, log)?;
@@ -93,8 +93,8 @@ pub(crate) fn match_along<W: WordClass>(
     }
 }
 
-/// Goes along from where a match begins, and writes what the preferred run from there records into slots that are empty: its pattern, and where it ends. These
-/// may be known before.
+/// Goes along from where a match begins, and writes what the preferred run from there records into slots of which none is set: its pattern, and where it
+/// ends. These may be known before.
 pub(crate) fn record_along<W: WordClass>(
     walk: &mut Walk,
     program: &Program<W>,
@@ -116,12 +116,12 @@ pub(crate) fn record_along<W: WordClass>(
 {
     // For the prover: positions up to the input's end, plus one, fit.
     let end = input.end();
-    walk.open(program.len())?;
+    walk.make_room(program.state_len())?;
     let mut at = start;
     let mut sid = program.start();
     'positions: loop {
         let list = table.list_at(log, end - at);
-        let (next, found) = walk.pass(program, input, at, list, sid, slots)?;
+        let (next, found) = walk.go_through(program, input, at, list, sid, slots)?;
         if let Some(pattern) = found {
             return Ok((pattern, at));
         }
@@ -174,7 +174,7 @@ impl Walk {
     }
 
     // Memory for that many states.
-    fn open(&mut self, count: usize) -> Result<(), Error>
+    fn make_room(&mut self, count: usize) -> Result<(), Error>
         ensures len { OnOk result (length self.new.seen.items ≡ count) }
         ensures refused { IfErr result (λ e. e ≡ OutOfMemory) }
     {
@@ -210,7 +210,7 @@ impl Walk {
     }
 
     // Goes through a position from a state on, and writes what is recorded there: the state after the byte, or the pattern of a match.
-    fn pass<W: WordClass>(
+    fn go_through<W: WordClass>(
         &mut self,
         program: &Program<W>,
         input: &Input<'_>,
@@ -247,26 +247,26 @@ impl Walk {
                 continue 'states;
             }
             self.seen[here.as_usize()] = self.stamp;
-            match way_along(program, input, at, list, here) {
-                Way::Stuck => match self.back() {
+            match action_along(program, input, at, list, here) {
+                Action::Stuck => match self.back() {
                     Some(next) => here = next,
                     // Nor here.
                     None => return Ok((here, None)),
                 },
-                Way::One(to) => {
+                Action::One(to) => {
                     self.trail.push(here)?;
                     here = to;
                 }
-                Way::Two(a, b) => {
+                Action::Two(a, b) => {
                     self.trail.push(here)?;
                     self.stack.push((b, self.trail.len()))?;
                     here = a;
                 }
-                Way::Over(to) => {
+                Action::OverByte(to) => {
                     record(program, at, self.trail.as_slice(), slots);
                     return Ok((to, None));
                 }
-                Way::Match(pattern) => {
+                Action::Match(pattern) => {
                     record(program, at, self.trail.as_slice(), slots);
                     return Ok((here, Some(pattern)));
                 }
@@ -290,34 +290,34 @@ impl Walk {
 
 // What a state does at a position, as far as a match is reached from there: the list has the states from which one is reached over the byte.
 #[inline]
-fn way_along<W: WordClass>(
+fn action_along<W: WordClass>(
     program: &Program<W>,
     input: &Input<'_>,
     at: usize,
     list: &[StateID],
     sid: StateID,
-) -> Way
+) -> Action
     requires start { input.now.span.start ≤ at }
     requires at { at ≤ input.now.span.end }
     requires sid { sid < length program.now.automaton.states }
-    ensures way { Lists (λ s. ArrivesOver (search_in W.word_chars program.now input.now) s at) list.now
-        → IsWayAlong (search_in W.word_chars program.now input.now) at sid result }
+    ensures action { Lists (λ s. ArrivesOver (search_in W.word_chars program.now input.now) s at) list.now
+        → IsActionAlong (search_in W.word_chars program.now input.now) at sid result }
     ensures there { IsThere (length program.now.automaton.states) result }
 {
-    match way_of(program, input, at, sid) {
-        Way::Over(to) => if has(list, sid) {
-            Way::Over(to)
+    match action_of(program, input, at, sid) {
+        Action::OverByte(to) => if has(list, sid) {
+            Action::OverByte(to)
         } else {
-            Way::Stuck
+            Action::Stuck
         },
-        Way::Two(a, b) => if is_dead(program, list, a) {
-            Way::One(b)
+        Action::Two(a, b) => if is_dead(program, list, a) {
+            Action::One(b)
         } else {
-            Way::Two(a, b)
+            Action::Two(a, b)
         },
-        Way::One(to) => Way::One(to),
-        Way::Match(pattern) => Way::Match(pattern),
-        Way::Stuck => Way::Stuck,
+        Action::One(to) => Action::One(to),
+        Action::Match(pattern) => Action::Match(pattern),
+        Action::Stuck => Action::Stuck,
     }
 }
 
@@ -336,6 +336,7 @@ fn is_dead<W: WordClass>(program: &Program<W>, list: &[StateID], sid: StateID) -
 }
 
 // Whether the list has the state.
+#[inline(always)]
 fn has(list: &[StateID], sid: StateID) -> bool
     ensures yes { result ≡ true → Contains list.now sid }
     ensures no { result ≡ false → ¬ (Contains list.now sid) }

@@ -110,7 +110,7 @@ pub(crate) fn go_back<W: WordClass>(
     let end = input.end();
     let mode = input.get_anchored();
     let after = after_of(input.haystack(), end);
-    let mut row = table.last_row(plan, &mode, after)?;
+    let mut row = table.backward_row(plan, &mode, after)?;
     log.clear();
     add_to_log(log, row)?;
     let mut at = end;

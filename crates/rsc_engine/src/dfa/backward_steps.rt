@@ -60,13 +60,16 @@ impl PassTable {
                     position -= 1;
                     add_to_log(log, here)?;
                 }
-                Lead::Marked(next) => {
+                Lead::WithMatch(next) => {
+                    if self.is_done(next as usize, false) {
+                        return Ok((here, position, found));
+                    }
                     here = next as usize;
                     found = self.least_with(here, position, found);
                     position -= 1;
                     add_to_log(log, here)?;
                 }
-                Lead::Unknown | Lead::Last(_) => return Ok((here, position, found)),
+                Lead::Unknown => return Ok((here, position, found)),
             }
         }
         Ok((here, position, found))
@@ -84,6 +87,7 @@ impl PassTable {
     }
 
     /// Whether the row has no state, and not all positions are wanted.
+    #[inline(always)]
     pub(crate) fn is_done(&self, row: usize, all: bool) -> bool
         ensures { result ≡ true → (all ≡ false) × ((found : PassRow) → slice_get self.now.rows.items row ≡ Some found → found.list.items ≡ []) }
     {

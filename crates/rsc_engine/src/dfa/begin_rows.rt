@@ -15,12 +15,13 @@ use rsc_primitives::StateID;
 use rsc_search::Anchored;
 use std::alloc::Global;
 
-/// How many rows are remembered.
-pub(crate) const REMEMBERED: usize = 512;
+// How many rows are remembered.
+const REMEMBERED: usize = 512;
 
 impl PassTable {
     /// The row in which a forward pass begins: its list is the start state alone.
-    pub(crate) fn first_row<W: WordClass>(
+    #[inline(always)]
+    pub(crate) fn forward_row<W: WordClass>(
         &mut self,
         plan: &Plan<'_, W>,
         mode: &Anchored,
@@ -41,7 +42,8 @@ impl PassTable {
     }
 
     /// The row in which a backward pass begins: its list is empty.
-    pub(crate) fn last_row<W: WordClass>(
+    #[inline(always)]
+    pub(crate) fn backward_row<W: WordClass>(
         &mut self,
         plan: &Plan<'_, W>,
         mode: &Anchored,
@@ -60,6 +62,7 @@ impl PassTable {
     }
 
     // A row in which a pass begins.
+    #[inline(always)]
     fn begin_row<W: WordClass>(
         &mut self,
         plan: &Plan<'_, W>,
@@ -81,7 +84,7 @@ impl PassTable {
     {
         let column = plan.column(read) % 256;
         let index = if backward { column + 256 } else { column };
-        let last = self.begin_rows[index] as usize;
+        let last = self.begin_rows.get(index).copied().unwrap_or(0) as usize;
         if self.is_begin_row(plan, last, backward, mode, begins, read, list) {
             return Ok(last);
         }
@@ -94,6 +97,9 @@ impl PassTable {
             list: list_of(self.alloc, list)?,
         };
         let row = self.row_of(plan, made)?.0;
+        if self.begin_rows.len() != REMEMBERED {
+            self.begin_rows = vec![in self.alloc; 0; REMEMBERED]?;
+        }
         if let Ok(number) = u32::try_from(row) {
             self.begin_rows[index] = number;
         }

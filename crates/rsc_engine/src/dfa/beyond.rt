@@ -145,7 +145,7 @@ impl PassTable {
     }
 }
 
-// Puts places without a step at the end of the list, until it has all.
+// Puts entries without a step at the end of the list, until it has all.
 fn fill(steps: &mut Vec<Option<BeyondStep>>) -> Result<(), Error>
     ensures same { (i : ℕ) → slice_index_or steps.new.items i None ≡ slice_index_or steps.old.items i None }
     ensures room { OnOk result (KEPT ≤ length steps.new.items) }

@@ -18,12 +18,10 @@ use std::alloc::Global;
 pub(crate) enum Lead {
     /// It isn't known.
     Unknown,
-    /// The unit leads to the row, which isn't marked.
+    /// The unit leads to the row, which knows of no match.
     To(u32),
-    /// The unit leads to the row, which may be marked.
-    Marked(u32),
-    /// The unit leads to the row, which has no state: a search ends there.
-    Last(u32),
+    /// The unit leads to the row, which may know of a match, or have no state. There are three variants, so that no step needs a table of jumps.
+    WithMatch(u32),
 }
 
 /// Where the entry of a row and a unit is, in a table of that many rows and entries.

@@ -17,8 +17,8 @@ const MOST_STATES: usize = 64;
 // Bytes of a larger range are met too often.
 const MOST_BYTES: u8 = 32;
 
-// That many bytes are looked at without a jump.
-const AT_ONCE: usize = 64;
+// That many bytes are looked at without a jump, and then each by itself: no more, since matches may be near each other.
+const AT_ONCE: usize = 16;
 
 /// A range of bytes with one of which each match begins.
 #[derive(Clone, Copy)]
@@ -32,7 +32,7 @@ impl FirstBytes {
     pub(crate) fn of<W: WordClass>(program: &Program<W>) -> Option<FirstBytes>
         ensures { IfSome result (λ f. HasFirst (machine W.word_chars program.now) f.range) }
     {
-        if program.len() > MOST_STATES {
+        if program.state_len() > MOST_STATES {
             return None;
         }
         let mut marks = [false; MOST_STATES];
@@ -51,7 +51,7 @@ impl FirstBytes {
         ensures { result ≡ true → HasFirst (machine W.word_chars program.now) self.now.range }
     {
         let mut all = is_marked(marks, program.start().as_usize());
-        'states: for index in 0..program.len() {
+        'states: for index in 0..program.state_len() {
             all = all
                 & (!is_marked(marks, index) || self.begins(program.nfa().states()[index], marks));
         }
@@ -125,7 +125,7 @@ impl FirstBytes {
 // Marks what marked states lead to with no byte, in one pass: the least range with the bytes over which they lead on.
 fn spread<W: WordClass>(program: &Program<W>, marks: &mut [bool]) -> (u8, u8) {
     let mut range = (u8::MAX, 0);
-    let count = program.len();
+    let count = program.state_len();
     for k in 0..count {
         // The builder's states lead to ones before them. Of another program nothing is found.
         let index = count - 1 - k;

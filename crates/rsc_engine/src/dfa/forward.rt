@@ -1,11 +1,11 @@
 //! The forward pass: it finds the end and the pattern of the leftmost-first match, or of the first match to end.
 //!
-//! At each position it has a list of states, the preferred ones first, and a look at the list leads to the next one. The first state of a list from which a
+//! At each position it has a list of states, the preferred ones first, and a scan of the list leads to the next one. The first state of a list from which a
 //! match is reached decides which match it is; so the list is cut behind a state that accepts, and the state at which matches begin is last in it, as long as
 //! no match was found. The last match found is the leftmost-first one. Before the first one is found no list is cut, so no match ends earlier.
 ghost use Rattle.std.specs.Prelude.{◌≡◌, ◌+◌, ◌<◌, ◌≤◌, [], IfOk, IfErr, IfSome, IfNone, true, false, length};
 ghost use Rattle.rsc_engine.specs.Searches.{search_in};
-ghost use Rattle.rsc_engine.specs.Preferred.{HasNone};
+ghost use Rattle.rsc_engine.specs.Preferred.{HasNoFirstMatch};
 ghost use Rattle.rsc_engine.specs.RowsLayout.{machine, IsPlan};
 ghost use Rattle.rsc_engine.specs.PassTableLayout.{IsPassTable};
 ghost use Rattle.rsc_engine.specs.OrderedLayout.{IsEndOf};
@@ -35,7 +35,7 @@ pub(crate) fn first_end<W: WordClass>(
         table.new.rows.items table.new.leads.items table.new.beyond.items }
     ensures found { earliest ≡ false → IfOk result (λ r. IfSome r.0 (λ f. IsEndOf (search_in W.word_chars plan.now.program.now input.now) f.0 f.1)) }
     ensures earliest { earliest ≡ true → IfOk result (λ r. IfSome r.0 (λ f. IsEarliestEnd (search_in W.word_chars plan.now.program.now input.now) f.1)) }
-    ensures none { IfOk result (λ r. IfNone r.0 (HasNone (search_in W.word_chars plan.now.program.now input.now))) }
+    ensures none { IfOk result (λ r. IfNone r.0 (HasNoFirstMatch (search_in W.word_chars plan.now.program.now input.now))) }
     ensures refused { IfErr result (λ e. e ≡ OutOfMemory) }
 {
     let start = input.start();
@@ -46,7 +46,7 @@ pub(crate) fn first_end<W: WordClass>(
     let mode = input.get_anchored();
     let begins = !mode.is_anchored();
     let before = before_of(input.haystack(), start);
-    let mut row = table.first_row(plan, &mode, begins, before)?;
+    let mut row = table.forward_row(plan, &mode, begins, before)?;
     let mut at = start;
     let mut last = None;
     'rows: loop {
@@ -55,7 +55,7 @@ pub(crate) fn first_end<W: WordClass>(
         if position == end {
             return Ok((now, position));
         }
-        if table.is_over(next) {
+        if table.is_final(next) {
             return Ok((now, position));
         }
         if earliest && table.has_found(next) {

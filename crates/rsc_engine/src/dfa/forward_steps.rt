@@ -49,21 +49,24 @@ impl PassTable {
         'bytes: for position in at..end {
             match self.lead_of(plan, here, byte_at(haystack, position)) {
                 Lead::To(next) => here = next as usize,
-                Lead::Marked(next) => {
+                Lead::WithMatch(next) => {
                     let next = next as usize;
+                    if self.is_final(next) {
+                        return (here, position, found);
+                    }
                     if earliest && self.has_found(next) {
                         return (here, position, found);
                     }
                     here = next;
                     found = self.found_with(next, position, found);
                 }
-                Lead::Unknown | Lead::Last(_) => return (here, position, found),
+                Lead::Unknown => return (here, position, found),
             }
         }
         (here, end, found)
     }
 
-    /// Whether a look that leads to the row finds a match.
+    /// Whether a scan that leads to the row finds a match.
     #[inline(always)]
     pub(crate) fn has_found(&self, row: usize) -> bool
         ensures some { result ≡ true → ¬ (found_in (slice_get self.now.rows.items row) ≡ None) }
@@ -78,7 +81,7 @@ impl PassTable {
         }
     }
 
-    /// The last match found, after a look at a position that leads to the row.
+    /// The last match found, after a scan at a position that leads to the row.
     #[inline(always)]
     pub(crate) fn found_with(
         &self,
@@ -98,7 +101,8 @@ impl PassTable {
     }
 
     /// Whether no match goes on from a row, or begins later.
-    pub(crate) fn is_over(&self, row: usize) -> bool
+    #[inline(always)]
+    pub(crate) fn is_final(&self, row: usize) -> bool
         ensures { result ≡ true → (found : PassRow) → slice_get self.now.rows.items row ≡ Some found →
             (found.list.items ≡ []) × (found.begins ≡ false) }
     {

@@ -6,7 +6,7 @@
 //! first marks nothing, since such a run has the two bytes. If no marked state accepts, each match has them.
 ghost use Rattle.std.specs.Prelude.{◌≡◌, ◌+◌, ◌-◌, ◌<◌, ◌≤◌, ℕ, IfSome, true, false, length, slice_get, slice_index, slice_index_or, Some};
 ghost use Rattle.rsc_engine.specs.Searches.{search_in};
-ghost use Rattle.rsc_engine.specs.Preferred.{HasNone};
+ghost use Rattle.rsc_engine.specs.Preferred.{HasNoFirstMatch};
 ghost use Rattle.rsc_engine.specs.NeededLayout.{HasNoPair, NeedsPair, PassesMarksOn, is_in, mark_of};
 ghost use Rattle.rsc_engine.specs.RowsLayout.{machine, IsMarked};
 ghost use Rattle.rsc_nfa.specs.declared.state.State.{State};
@@ -42,12 +42,12 @@ impl Needed {
     pub(crate) fn of<W: WordClass>(program: &Program<W>) -> Option<Needed>
         ensures { IfSome result (λ n. NeedsPair (machine W.word_chars program.now) n.first n.second) }
     {
-        if program.len() > MOST_STATES {
+        if program.state_len() > MOST_STATES {
             return None;
         }
         let mut tries = 0;
-        for one in 0..program.len() {
-            for other in 0..program.len() {
+        for one in 0..program.state_len() {
+            for other in 0..program.state_len() {
                 let ranges = (range_of(program, one), range_of(program, other));
                 if let (Some(first), Some(second)) = ranges {
                     if tries >= MOST_TRIES {
@@ -84,7 +84,7 @@ impl Needed {
         false
     }
 
-    // One pass: marks what each marked state leads to. True if nothing was left to mark, and no marked state accepts.
+    // One round: marks what each marked state leads to. True if nothing was left to mark, and no marked state accepts.
     fn are_passed<W: WordClass>(&self, program: &Program<W>, marks: &mut [bool]) -> bool
         requires { length marks.old ≡ MARKS }
         ensures len { length marks.new ≡ MARKS }
@@ -92,7 +92,7 @@ impl Needed {
     {
         let start = program.start().as_usize();
         let mut all = true;
-        let count = program.len();
+        let count = program.state_len();
         'states: for k in 0..count {
             // The builder's states lead to ones before them.
             let index = count - 1 - k;
@@ -157,7 +157,7 @@ impl Needed {
     /// Whether an input's span lacks such bytes, and so has no match of the program.
     pub(crate) fn are_missing<W: WordClass>(&self, program: &Program<W>, input: &Input<'_>) -> bool
         requires { NeedsPair (machine W.word_chars program.now) self.now.first self.now.second }
-        ensures { result ≡ true → HasNone (search_in W.word_chars program.now input.now) }
+        ensures { result ≡ true → HasNoFirstMatch (search_in W.word_chars program.now input.now) }
     {
         if self.stand_in(input.haystack(), input.start(), input.end()) {
             return false;

@@ -7,7 +7,7 @@ ghost use Rattle.std.specs.List.{Contains};
 ghost use Rattle.rsc_engine.specs.RowsLayout.{Gathers, AddsOne, AreStates};
 ghost use Rattle.rsc_engine.specs.ForwardLayout.{IsAdvanced};
 ghost use Rattle.rsc_engine.specs.declared.error.Error.TheVariants.{OutOfMemory};
-ghost use Rattle.rsc_engine.specs.OrderedLayout.{IsWayOn, IsThere, IsLooked};
+ghost use Rattle.rsc_engine.specs.OrderedLayout.{IsActionOf, IsThere, IsScanned};
 
 use crate::{Error, Program};
 use rsc_look::WordClass;
@@ -18,13 +18,13 @@ use std::alloc::Global;
 
 /// What a state does at a position.
 #[derive(Clone, Copy)]
-pub(crate) enum Way {
+pub(crate) enum Action {
     /// No step leads on, and it's no match.
     Stuck,
     /// One step leads on, with no byte.
     One(StateID),
     /// One step leads on, over the byte.
-    Over(StateID),
+    OverByte(StateID),
     /// Two steps lead on, with no byte; the first is preferred.
     Two(StateID, StateID),
     /// A match.
@@ -32,15 +32,16 @@ pub(crate) enum Way {
 }
 
 /// What the program's state does at a position of the input.
-pub(crate) fn way_of<W: WordClass>(
+#[inline(always)]
+pub(crate) fn action_of<W: WordClass>(
     program: &Program<W>,
     input: &Input<'_>,
     at: usize,
     sid: StateID,
-) -> Way
+) -> Action
     requires at { at ≤ input.now.span.end }
     requires sid { sid < length program.now.automaton.states }
-    ensures way { IsWayOn (search_in W.word_chars program.now input.now) at sid result }
+    ensures action { IsActionOf (search_in W.word_chars program.now input.now) at sid result }
     ensures there { IsThere (length program.now.automaton.states) result }
 {
     // For the prover: positions up to the input's end are in the haystack.
@@ -53,25 +54,25 @@ pub(crate) fn way_of<W: WordClass>(
             next,
         } => {
             if at < end && start <= haystack[at] && haystack[at] <= last {
-                Way::Over(next)
+                Action::OverByte(next)
             } else {
-                Way::Stuck
+                Action::Stuck
             }
         }
         State::Assert { look, next } => {
             if program.nfa().matcher().matches(look, haystack, at) {
-                Way::One(next)
+                Action::One(next)
             } else {
-                Way::Stuck
+                Action::Stuck
             }
         }
-        State::Fork { a, b } => Way::Two(a, b),
-        State::Capture { next, .. } => Way::One(next),
+        State::Fork { a, b } => Action::Two(a, b),
+        State::Capture { next, .. } => Action::One(next),
         State::Accept { pattern } => {
             if is_wanted(input, pattern) {
-                Way::Match(pattern)
+                Action::Match(pattern)
             } else {
-                Way::Stuck
+                Action::Stuck
             }
         }
     }
@@ -88,7 +89,7 @@ fn is_wanted(input: &Input<'_>, pattern: PatternID) -> bool
 }
 
 /// The pattern of a match that ends at the position, if one does, and the ordered list of the states after the byte there.
-pub(crate) fn look<W: WordClass>(
+pub(crate) fn scan<W: WordClass>(
     alloc: Global,
     program: &Program<W>,
     input: &Input<'_>,
@@ -98,11 +99,11 @@ pub(crate) fn look<W: WordClass>(
     requires start { input.now.span.start ≤ at }
     requires at { at ≤ input.now.span.end }
     requires list { AreStates (length program.now.automaton.states) list.now }
-    ensures looked { IfOk result (λ r. IsLooked (search_in W.word_chars program.now input.now) at list.now r.0 r.1.items) }
+    ensures scanned { IfOk result (λ r. IsScanned (search_in W.word_chars program.now input.now) at list.now r.0 r.1.items) }
     ensures states { IfOk result (λ r. AreStates (length program.now.automaton.states) r.1.items) }
     ensures refused { IfErr result (λ e. e ≡ OutOfMemory) }
 {
-    let count = program.len();
+    let count = program.state_len();
     let mut seen = vec![in alloc; false; count]?;
     let mut taken = vec![in alloc; false; count]?;
     let mut stack = reversed(alloc, list)?;
@@ -112,15 +113,15 @@ pub(crate) fn look<W: WordClass>(
             continue 'stack;
         }
         seen[sid.as_usize()] = true;
-        match way_of(program, input, at, sid) {
-            Way::Stuck => {}
-            Way::One(to) => stack.push(to)?,
-            Way::Over(to) => add(to, &mut taken, &mut next)?,
-            Way::Two(a, b) => {
+        match action_of(program, input, at, sid) {
+            Action::Stuck => {}
+            Action::One(to) => stack.push(to)?,
+            Action::OverByte(to) => add(to, &mut taken, &mut next)?,
+            Action::Two(a, b) => {
                 stack.push(b)?;
                 stack.push(a)?;
             }
-            Way::Match(pattern) => return Ok((Some(pattern), next)),
+            Action::Match(pattern) => return Ok((Some(pattern), next)),
         }
     }
     Ok((None, next))
@@ -167,7 +168,7 @@ pub(crate) fn advance<W: WordClass>(
     ensures states { IfOk result (λ r. AreStates (length program.now.automaton.states) r.2.items) }
     ensures refused { IfErr result (λ e. e ≡ OutOfMemory) }
 {
-    let (found, next) = look(alloc, program, input, at, list)?;
+    let (found, next) = scan(alloc, program, input, at, list)?;
     if found.is_some() || !begins {
         return Ok((found, false, next));
     }

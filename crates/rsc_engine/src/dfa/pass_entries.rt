@@ -15,21 +15,19 @@ pub(crate) fn led_to(lead: Lead) -> Option<usize>
     ensures { result ≡ row_of lead }
 {
     match lead {
-        Lead::To(row) | Lead::Marked(row) | Lead::Last(row) => Some(row as usize),
+        Lead::To(row) | Lead::WithMatch(row) => Some(row as usize),
         Lead::Unknown => None,
     }
 }
 
-/// The entry that leads to the row, or says nothing. A row that is `is_last` ends a search.
-pub(crate) fn lead_to(row: usize, is_last: bool, is_marked: bool) -> Lead
+/// The entry that leads to the row, or says nothing.
+pub(crate) fn lead_to(row: usize, has_match: bool) -> Lead
     ensures row { (row_of result ≡ None) ⊎ (row_of result ≡ Some row) }
-    ensures plain { IfSome (plain_row_of result) (λ next. (next ≡ row) × (is_marked ≡ false)) }
+    ensures plain { IfSome (plain_row_of result) (λ next. (next ≡ row) × (has_match ≡ false)) }
 {
     match u32::try_from(row) {
-        Ok(row) => if is_last {
-            Lead::Last(row)
-        } else if is_marked {
-            Lead::Marked(row)
+        Ok(row) => if has_match {
+            Lead::WithMatch(row)
         } else {
             Lead::To(row)
         },

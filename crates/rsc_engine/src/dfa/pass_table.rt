@@ -3,10 +3,9 @@ ghost use Rattle.std.specs.Prelude.{◌≡◌, ◌+◌, ◌*◌, ◌<◌, ◌≤
 ghost use Rattle.std.specs.BTreeMap.{IsEmpty};
 ghost use Rattle.rsc_engine.specs.declared.error.Error.TheVariants.{OutOfMemory};
 ghost use Rattle.rsc_engine.specs.RowsLayout.{Machine, machine, AreStates, IsPlan, IsPlainUnit};
-ghost use Rattle.rsc_engine.specs.PassTableLayout.{IsPassTable, IsPassRow, IsPassStep, IsPassTo, IsSoundPassRow, IsPassGrown, IsUnmarked, AreFew, row_of, plain_row_of};
+ghost use Rattle.rsc_engine.specs.PassTableLayout.{IsPassTable, IsPassRow, IsPassStep, IsPassTo, IsSoundPassRow, IsPassGrown, KnowsNoMatch, AreFew, row_of, plain_row_of};
 ghost use Rattle.rsc_engine.specs.declared.dfa.pass_table.PassRow.{PassRow};
 
-use super::begin_rows::REMEMBERED;
 use super::beyond::{BeyondStep, step_at};
 use super::entries::{Lead, are_alike, are_same, entry_index, is_byte, widen};
 use super::near::near_of;
@@ -47,9 +46,9 @@ pub(crate) struct PassTable {
     // Steps beside bytes above 7F, each where its number says.
     pub(crate) beyond: Vec<Option<BeyondStep>>,
     // For each row's key the row. No clause speaks of it, since the row that is found is compared.
-    known: BTreeMap<Vec<u32>, usize>,
-    // The rows in which passes began. No clause speaks of them either.
-    pub(crate) begin_rows: [u32; REMEMBERED],
+    by_key: BTreeMap<Vec<u32>, usize>,
+    // The rows in which passes began, once one did. No clause speaks of them either.
+    pub(crate) begin_rows: Vec<u32>,
 }
 
 impl PassTable {
@@ -64,8 +63,8 @@ impl PassTable {
             rows: Vec::new(alloc),
             leads: Vec::new(alloc),
             beyond: Vec::new(alloc),
-            known: BTreeMap::new(alloc),
-            begin_rows: [0; REMEMBERED],
+            by_key: BTreeMap::new(alloc),
+            begin_rows: Vec::new(alloc),
         }
     }
 
@@ -78,7 +77,7 @@ impl PassTable {
         requires row { row < length self.now.rows.items }
         ensures row { IfSome (row_of result) (IsPassTo (machine W.word_chars plan.now.program.now) plan.now.classes
             self.now.rows.items self.now.rows.items row (Some byte)) }
-        ensures plain { IfSome (plain_row_of result) (λ next. IsUnmarked (slice_get self.now.rows.items next)) }
+        ensures plain { IfSome (plain_row_of result) (λ next. KnowsNoMatch (slice_get self.now.rows.items next)) }
     {
         let entry = entry_index(plan, row, Some(byte), self.rows.len(), self.leads.len());
         self.leads[entry]
@@ -127,7 +126,6 @@ impl PassTable {
         let backward = from.backward;
         let mode = from.mode;
         let (found, begins, list) = step_beside(self.alloc, plan.program, from, unit)?;
-        let is_last = list.is_empty() && (backward || !begins);
         let next_row = PassRow {
             backward,
             mode,
@@ -139,19 +137,18 @@ impl PassTable {
         let made = self.row_of(plan, next_row)?;
         let next = made.0;
         if made.1 {
-            self.record(plan, row, unit, next, is_last);
+            self.record(plan, row, unit, next);
         }
         Ok(next)
     }
 
-    // Records where a unit leads. A row that is `is_last` ends a search.
+    // Records where a unit leads.
     fn record<W: WordClass>(
         &mut self,
         plan: &Plan<'_, W>,
         row: usize,
         unit: Option<u8>,
         next: usize,
-        is_last: bool,
     )
         requires plan { IsPlan (machine W.word_chars plan.now.program.now) plan.now.classes plan.now.width plan.now.unicode }
         requires exact { IsPassTable (machine W.word_chars plan.now.program.now) plan.now.classes plan.now.width plan.now.most_rows
@@ -165,18 +162,18 @@ impl PassTable {
         entries_of_a_table_are_apart();
         is_byte(unit);
         let entry = entry_index(plan, row, unit, self.rows.len(), self.leads.len());
-        self.leads[entry] = lead_to(next, is_last, self.is_marked(next));
+        self.leads[entry] = lead_to(next, self.has_match(next));
     }
 
-    // Whether a row knows of a match that ends before the byte read last, or in the backward pass begins after it.
-    fn is_marked(&self, row: usize) -> bool
-        ensures { result ≡ false → IsUnmarked (slice_get self.now.rows.items row) }
+    // Whether a row knows of a match that ends before the byte read last, or in the backward pass begins after it; or has no state.
+    fn has_match(&self, row: usize) -> bool
+        ensures { result ≡ false → KnowsNoMatch (slice_get self.now.rows.items row) }
     {
         if row >= self.rows.len() {
             return false;
         }
         let there = &self.rows[row];
-        if there.backward && there.begins {
+        if there.list.is_empty() || (there.backward && there.begins) {
             return true;
         }
         match there.found {
@@ -203,7 +200,7 @@ impl PassTable {
         ensures refused { IfErr result (λ e. e ≡ OutOfMemory) }
     {
         let key = pass_key(self.alloc, &plan.classes, &row)?;
-        if let Some(index) = self.known.get(&key).copied() {
+        if let Some(index) = self.by_key.get(&key).copied() {
             if self.is_row(plan, index, &row) {
                 return Ok((index, true));
             }
@@ -259,12 +256,12 @@ impl PassTable {
         ensures rows { self.new.rows.items ≡ [] }
         ensures leads { self.new.leads.items ≡ [] }
         ensures beyond { self.new.beyond.items ≡ [] }
-        ensures known { IsEmpty self.new.known }
+        ensures empty { IsEmpty self.new.by_key }
     {
         self.rows.clear();
         self.leads.clear();
         self.beyond.clear();
-        self.known.clear();
+        self.by_key.clear();
     }
 
     // Adds a row.
@@ -287,7 +284,7 @@ impl PassTable {
     {
         is_byte(row.read);
         let index = self.rows.len();
-        self.known.insert(key, index)?;
+        self.by_key.insert(key, index)?;
         widen(&mut self.leads, index * plan.width + plan.width)?;
         self.rows.push(row)?;
         Ok(index)

@@ -5,7 +5,7 @@ ghost use Rattle.rsc_look.specs.Holds.{byte_before, byte_after};
 ghost use Rattle.rsc_engine.specs.RowsLayout.{IsPlan, IsPlainUnit, machine};
 ghost use Rattle.rsc_engine.specs.PassTableLayout.{column};
 
-use crate::{AsciiWordClass, Program};
+use crate::{AsciiCompatible, Program};
 use rsc_alphabet::{ByteClassSet, ByteClasses};
 use rsc_look::WordClass;
 
@@ -27,7 +27,7 @@ pub(crate) struct Plan<'p, W: WordClass> {
     pub(crate) most_rows: usize,
 }
 
-impl<'p, W: WordClass + AsciiWordClass> Plan<'p, W> {
+impl<'p, W: WordClass + AsciiCompatible> Plan<'p, W> {
     /// The plan of a program.
     pub(crate) fn new(program: &'p Program<W>, most_rows: usize) -> Plan<'p, W>
         ensures program { result.program.now ≡ program.now }

@@ -23,7 +23,7 @@ pub(crate) fn loud_states<W: WordClass>(
     ensures quiet { IfOk result (λ loud. AreQuiet program.now.automaton.states loud.items) }
     ensures refused { IfErr result (λ e. e ≡ OutOfMemory) }
 {
-    let mut loud = vec![in alloc; false; program.len()]?;
+    let mut loud = vec![in alloc; false; program.state_len()]?;
     'passes: loop {
         if !spread(program, &mut loud) {
             return Ok(loud);
@@ -41,7 +41,7 @@ fn spread<W: WordClass>(program: &Program<W>, loud: &mut Vec<bool>) -> bool
 {
     let mut spread = false;
     // The builder's states lead to ones before them.
-    'states: for index in 0..program.len() {
+    'states: for index in 0..program.state_len() {
         if becomes_loud(program, loud, StateID::must(index)) {
             loud[index] = true;
             spread = true;

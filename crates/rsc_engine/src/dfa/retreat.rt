@@ -8,7 +8,7 @@ ghost use Rattle.rsc_engine.specs.RowsLayout.{IsMarked, machine, Gathers, AreSta
 ghost use Rattle.rsc_engine.specs.BackwardLayout.{Lists, AreLedBack, IsShutAt, IsShut, IsClosedBack, LeadsToMarked, IsSource, IsRetreated};
 
 use super::near::moved;
-use super::ordered::{Way, way_of};
+use super::ordered::{Action, action_of};
 use crate::{Error, Program};
 use rsc_look::WordClass;
 use rsc_primitives::StateID;
@@ -32,7 +32,7 @@ pub(crate) fn retreat<W: WordClass>(
     ensures states { IfOk result (λ r. AreStates (length program.now.automaton.states) r.1.items) }
     ensures refused { IfErr result (λ e. e ≡ OutOfMemory) }
 {
-    let mut marks = marked(alloc, program.len(), list)?;
+    let mut marks = marked(alloc, program.state_len(), list)?;
     close(program, input, at, &mut marks);
     let begins = is_marked(&marks, program.start());
     let next = sources(alloc, program, input, at, &marks)?;
@@ -98,7 +98,7 @@ fn grow<W: WordClass>(
 {
     let mut grew = false;
     // The builder's states lead to ones before them.
-    'states: for index in 0..program.len() {
+    'states: for index in 0..program.state_len() {
         if is_due(program, input, at, marks, StateID::must(index)) {
             marks[index] = true;
             grew = true;
@@ -125,15 +125,15 @@ fn is_due<W: WordClass>(
     if is_marked(marks, sid) {
         return false;
     }
-    match way_of(program, input, at, sid) {
-        Way::One(to) => is_marked(marks, to),
-        Way::Two(a, b) => is_marked(marks, a) || is_marked(marks, b),
-        Way::Match(_) => true,
-        Way::Stuck | Way::Over(_) => false,
+    match action_of(program, input, at, sid) {
+        Action::One(to) => is_marked(marks, to),
+        Action::Two(a, b) => is_marked(marks, a) || is_marked(marks, b),
+        Action::Match(_) => true,
+        Action::Stuck | Action::OverByte(_) => false,
     }
 }
 
-// The states which the byte before a position leads to marked ones.
+// The states from which the byte before a position leads to marked ones.
 fn sources<W: WordClass>(
     alloc: Global,
     program: &Program<W>,
@@ -151,7 +151,7 @@ fn sources<W: WordClass>(
     if at == 0 {
         return Ok(list);
     }
-    'states: for index in 0..program.len() {
+    'states: for index in 0..program.state_len() {
         let sid = StateID::must(index);
         if is_source(program, input.haystack(), at - 1, marks, sid) {
             list.push(sid)?;

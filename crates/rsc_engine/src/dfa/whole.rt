@@ -21,7 +21,7 @@ use rsc_primitives::{NonMaxUsize, PatternID};
 use rsc_search::{Input, Match, Span};
 
 /// Whether a match of the program records nothing but its ends in these captures.
-pub(crate) fn is_whole<W: WordClass>(program: &Program<W>, captures: &Captures) -> bool
+pub(crate) fn records_only_ends<W: WordClass>(program: &Program<W>, captures: &Captures) -> bool
     ensures ends { result ≡ true → RecordsEnds W.word_chars program.now }
     ensures few { result ≡ true → length captures.now.offsets ≤ 2 * length program.now.automaton.groups }
 {
@@ -29,7 +29,7 @@ pub(crate) fn is_whole<W: WordClass>(program: &Program<W>, captures: &Captures) 
     captures.slots().len() <= most && program.records_ends()
 }
 
-/// The leftmost-first match, which is of a pattern and ends at a position. Its ends are in the captures afterwards, which are empty before.
+/// The leftmost-first match, which is of a pattern and ends at a position. Its ends are in the captures afterwards, in which no slot is set before.
 pub(crate) fn match_whole<W: WordClass>(
     plan: &Plan<'_, W>,
     table: &mut PassTable,
@@ -52,9 +52,9 @@ pub(crate) fn match_whole<W: WordClass>(
         table.new.rows.items table.new.leads.items table.new.beyond.items }
     ensures found { IfOk result (IsFirstMatch (search_in W.word_chars plan.now.program.now input.now) captures.new) }
     ensures within { IfOk result (IsInSpan input.now) }
-    ensures groups { captures.new.groups ≡ captures.old.groups }
-    ensures slots { length captures.new.offsets ≡ length captures.old.offsets }
-    ensures failed { OnErr result (IsCleared captures.old captures.new) }
+    ensures kept_groups { captures.new.groups ≡ captures.old.groups }
+    ensures kept_slots { length captures.new.offsets ≡ length captures.old.offsets }
+    ensures cleared_by_error { OnErr result (IsCleared captures.old captures.new) }
     ensures refused { IfErr result (λ e. e ≡ OutOfMemory) }
 {
     // For the prover: positions up to the input's end, plus one, fit.
@@ -92,7 +92,7 @@ fn start_of<W: WordClass>(
     first_start(plan, table, input, pattern, end, log)
 }
 
-// Writes the ends of a match into slots that are empty.
+// Writes the ends of a match into slots of which none is set.
 fn set_ends(slots: &mut [Option<NonMaxUsize>], pattern: PatternID, span: &Span)
     requires start { span.now.start + 1 < 2 ^ 64 }
     requires end { span.now.end + 1 < 2 ^ 64 }

@@ -6,7 +6,7 @@ ghost use Rattle.rsc_search.specs.Inputs.{InputParts};
 ghost use Rattle.rsc_search.specs.Matches.{Matched};
 ghost use Rattle.rsc_engine.specs.Searches.{Compiled, search_in};
 ghost use Rattle.rsc_engine.specs.Patterns.{Pattern, may_be_empty};
-ghost use Rattle.rsc_engine.specs.Preferred.{IsFirstMatch, HasNone};
+ghost use Rattle.rsc_engine.specs.Preferred.{IsFirstMatch, HasNoFirstMatch};
 ghost use Rattle.rsc_engine.specs.NextMatches.{IsNextMatch, IsOver};
 ghost use Rattle.rsc_engine.specs.PatternMatches.{IsBuiltOf};
 ghost use Rattle.rsc_engine.specs.OnePattern.{subject_in, IsMatchOfOne, GoesNowhereTo, GoesNowhereIn, IsNextOfOne, IsOverOfOne};
@@ -27,7 +27,7 @@ pub fn a_match_of_one_pattern<W: WordClass>()
         IsMatchOfOne (subject_in W.word_chars input.haystack matcher) p groups input captures found
         × GoesNowhereTo (subject_in W.word_chars input.haystack matcher) p input found.span.start }
     ensures none { (program : Compiled W) (p : Pattern) (matcher : ℕ × W) (input : InputParts) → IsBuiltOf W.word_chars program (p ∷ []) →
-        program.automaton.matcher ≡ matcher → HasNone (search_in W.word_chars program input) →
+        program.automaton.matcher ≡ matcher → HasNoFirstMatch (search_in W.word_chars program input) →
         GoesNowhereIn (subject_in W.word_chars input.haystack matcher) p input }
     ensures next { (program : Compiled W) (p : Pattern) (groups : Groups) (matcher : ℕ × W) (input : InputParts) (last : Option ℕ) (captures : Captured)
         (found : Matched) → IsBuiltOf W.word_chars program (p ∷ []) → program.automaton.groups ≡ groups ∷ [] → program.automaton.matcher ≡ matcher →
@@ -41,7 +41,7 @@ pub fn a_match_of_one_pattern<W: WordClass>()
         (captures : Captured) (found : Matched) → IsBuiltOf W.word_chars program (p ∷ []) → program.automaton.groups ≡ groups ∷ [] →
         program.automaton.matcher ≡ matcher → program.utf8 ≡ utf8 → IsNextMatch (search_in W.word_chars program input) last captures found →
         IsNextOfOne (subject_in W.word_chars input.haystack matcher) p groups utf8 input last found.span }
-    ensures passed { (program : Compiled W) (p : Pattern) (groups : Groups) (matcher : ℕ × W) (utf8 : Bool) (input : InputParts) (last : Option ℕ) →
+    ensures left_out { (program : Compiled W) (p : Pattern) (groups : Groups) (matcher : ℕ × W) (utf8 : Bool) (input : InputParts) (last : Option ℕ) →
         IsBuiltOf W.word_chars program (p ∷ []) → program.automaton.groups ≡ groups ∷ [] → program.automaton.matcher ≡ matcher → program.utf8 ≡ utf8 →
         IsOver (search_in W.word_chars program input) last → IsOverOfOne (subject_in W.word_chars input.haystack matcher) p groups utf8 input last }
 {}

@@ -14,7 +14,7 @@ fn program(alloc: Global, texts: &[&str]) -> Result<Program<AsciiWord>, Error> {
     let mut last = builder.never();
     for (index, text) in texts.iter().enumerate() {
         if index > 0 {
-            builder.pattern(last)?;
+            builder.add_pattern(last)?;
         }
         last = builder.literal(text.as_bytes())?;
     }

@@ -263,7 +263,7 @@ fn patterns(alloc: Global) -> Result<Program<AsciiWord>, Error> {
     let mut builder = Builder::new(alloc);
     let one = builder.literal(b"ab")?;
     let one = builder.group(Some("x"), one)?;
-    builder.pattern(one)?;
+    builder.add_pattern(one)?;
     let other = builder.literal(b"a")?;
     let other = builder.group(Some("x"), other)?;
     builder.build(AsciiWord, true, other)

@@ -45,7 +45,7 @@ fn has_size(alloc: Global, made: (Part<'static>, usize)) -> Result<bool, Fail> {
     let mut builder = Builder::new(alloc);
     builder.limit_states(size.saturating_add(3));
     let program = builder.build(AsciiWord, true, part)?;
-    Ok(program.len() == size.saturating_add(3))
+    Ok(program.state_len() == size.saturating_add(3))
 }
 
 fn is_refused_below(alloc: Global, made: (Part<'static>, usize)) -> bool {
@@ -85,13 +85,13 @@ fn a_part_has_as_many_states_as_its_size(rt: HostRuntime) -> Result<(), Fail> {
 fn patterns_have_a_choice_between_them(rt: HostRuntime) -> Result<(), Fail> {
     let mut builder = Builder::new(rt.alloc());
     let first = builder.range(b'a', b'a');
-    builder.pattern(first)?;
+    builder.add_pattern(first)?;
     let second = builder.range(b'b', b'b');
-    builder.pattern(second)?;
+    builder.add_pattern(second)?;
     builder.limit_states(14);
     let last = builder.range(b'c', b'c');
     let program = builder.build(AsciiWord, true, last)?;
-    assert!(rt; program.len() == 14);
+    assert!(rt; program.state_len() == 14);
     Ok(())
 }
 
@@ -145,7 +145,7 @@ fn more_than_65536_patterns_are_built(rt: HostRuntime) -> Result<(), Fail> {
     let mut builder = Builder::new(rt.alloc());
     for _ in 1..70000 {
         let part = builder.range(b'a', b'a');
-        builder.pattern(part)?;
+        builder.add_pattern(part)?;
     }
     let last = builder.range(b'b', b'b');
     let program = builder.build(AsciiWord, false, last)?;
@@ -161,7 +161,7 @@ fn more_than_65536_groups_are_built(rt: HostRuntime) -> Result<(), Fail> {
         parts.push(builder.group(None, builder.empty())?)?;
     }
     let whole = builder.concat(parts)?;
-    assert!(rt; builder.build(AsciiWord, false, whole)?.len() == 140003);
+    assert!(rt; builder.build(AsciiWord, false, whole)?.state_len() == 140003);
     Ok(())
 }
 
@@ -170,7 +170,7 @@ fn a_long_literal_is_built_in_time(rt: HostRuntime) -> Result<(), Fail> {
     let builder = Builder::new(rt.alloc());
     let text = vec![in rt.alloc(); b'b'; 500000]?;
     let long = builder.literal(text.as_slice())?;
-    assert!(rt; builder.build(AsciiWord, false, long)?.len() == 500003);
+    assert!(rt; builder.build(AsciiWord, false, long)?.state_len() == 500003);
     Ok(())
 }
 
@@ -181,6 +181,6 @@ fn a_part_of_many_levels_is_measured_once(rt: HostRuntime) -> Result<(), Fail> {
     for _ in 0..64 {
         part = builder.optional(part)?;
     }
-    assert!(rt; builder.build(AsciiWord, false, part)?.len() == 68);
+    assert!(rt; builder.build(AsciiWord, false, part)?.state_len() == 68);
     Ok(())
 }

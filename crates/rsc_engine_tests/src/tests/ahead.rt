@@ -15,7 +15,7 @@ fn far_and_groups(alloc: Global) -> Result<Program<AsciiWord>, Error> {
     let letters = builder.star(builder.range(b'a', b'z'))?;
     let far = builder.then(letters, builder.range(b'0', b'9'))?;
     let near = builder.either(far, builder.range(b'a', b'a'))?;
-    builder.pattern(near)?;
+    builder.add_pattern(near)?;
     let first = builder.group(None, builder.range(b'b', b'b'))?;
     let last = builder.optional(builder.range(b'c', b'c'))?;
     let last = builder.group(None, last)?;

@@ -18,7 +18,7 @@ fn program_of(alloc: Global, number: usize) -> Result<Program<UnicodeWord>, Erro
         _ => {
             let letters = builder.plus(builder.range(b'a', b'a'))?;
             let last = builder.then(letters, builder.range(b'b', b'b'))?;
-            builder.pattern(last)?;
+            builder.add_pattern(last)?;
             word(&builder)?
         }
     };

@@ -120,7 +120,7 @@ fn two(alloc: Global) -> Result<Program<AsciiWord>, Error> {
     let letter = builder.literal(b"a")?;
     let end = builder.assertion(Look::WordEndAscii);
     let one = builder.then(letter, end)?;
-    builder.pattern(one)?;
+    builder.add_pattern(one)?;
     let other = builder.literal(b"b")?;
     let other = builder.plus(other)?;
     builder.build(AsciiWord, true, other)

@@ -163,7 +163,7 @@ fn clears_the_captures_without_a_match(rt: HostRuntime) -> Result<(), Fail> {
 #[test]
 fn a_program_knows_where_it_begins(rt: HostRuntime) -> Result<(), Fail> {
     let program = two_patterns(rt.alloc())?;
-    assert!(rt; program.start() == StateID::ZERO && program.len() == 10 && program.is_utf8());
+    assert!(rt; program.start() == StateID::ZERO && program.state_len() == 10 && program.is_utf8());
     assert!(rt; program.state(StateID::must(9)) == accept(1));
     Ok(())
 }

@@ -3,7 +3,7 @@ use super::dfa::{TEXTS, text_of};
 use super::programs::program_of;
 use super::slow::first_match;
 use rsc_captures::Captures;
-use rsc_engine::{AsciiWordClass, Builder, Dfa, Error, Lines, Program};
+use rsc_engine::{AsciiCompatible, Builder, Dfa, Error, Lines, Program};
 use rsc_look::{AsciiWord, WordClass};
 use rsc_search::{Input, Span};
 use std::alloc::Global;
@@ -20,7 +20,7 @@ fn end_of(text: &[u8], start: usize) -> usize {
 }
 
 // Whether the lines are those in which a walk finds a match.
-fn agree<W: WordClass + AsciiWordClass>(
+fn agree<W: WordClass + AsciiCompatible>(
     alloc: Global,
     program: &Program<W>,
     lines: &mut Lines<'_, '_, W>,
@@ -47,7 +47,7 @@ fn agree<W: WordClass + AsciiWordClass>(
 }
 
 // The number of the first text over which they don't agree.
-fn differing_text<W: WordClass + AsciiWordClass>(
+fn differing_text<W: WordClass + AsciiCompatible>(
     alloc: Global,
     program: &Program<W>,
     most_rows: usize,

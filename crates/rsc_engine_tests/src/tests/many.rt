@@ -118,7 +118,7 @@ fn patterns(alloc: Global, count: usize) -> Result<Program<AsciiWord>, Error> {
         let first = u8::try_from(number / 251 % 251).unwrap_or(0);
         let second = u8::try_from(number % 251).unwrap_or(0);
         let part = builder.literal(&[b'x', first, second])?;
-        builder.pattern(part)?;
+        builder.add_pattern(part)?;
     }
     let last = builder.literal(b"y")?;
     builder.build(AsciiWord, false, last)

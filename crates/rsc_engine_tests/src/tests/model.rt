@@ -135,7 +135,7 @@ fn step(
     at: usize,
     other: bool,
 ) -> Option<(StateID, usize)> {
-    if sid.as_usize() >= program.len() || at > text.len() {
+    if sid.as_usize() >= program.state_len() || at > text.len() {
         return None;
     }
     match program.state(sid) {
@@ -157,7 +157,7 @@ fn step(
 }
 
 fn accepts(program: &Program<AsciiWord>, sid: StateID) -> bool {
-    if sid.as_usize() < program.len() {
+    if sid.as_usize() < program.state_len() {
         matches!(program.state(sid), State::Accept { .. })
     } else {
         false

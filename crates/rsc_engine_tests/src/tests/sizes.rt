@@ -186,7 +186,7 @@ fn patterns(alloc: Global, count: usize) -> Result<Program<AsciiWord>, Error> {
     for number in 1..count {
         let two = digits(number);
         let part = builder.literal(&[b'x', two[0], two[1]])?;
-        builder.pattern(part)?;
+        builder.add_pattern(part)?;
     }
     let two = digits(count);
     let last = builder.literal(&[b'x', two[0], two[1]])?;

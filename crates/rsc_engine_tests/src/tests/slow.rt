@@ -26,7 +26,7 @@ fn steps<W: WordClass>(
     sid: StateID,
     at: usize,
 ) -> (Option<Place>, Option<Place>) {
-    if sid.as_usize() >= program.len() || at > input.haystack().len() {
+    if sid.as_usize() >= program.state_len() || at > input.haystack().len() {
         return (None, None);
     }
     match program.state(sid) {
@@ -56,7 +56,7 @@ fn accepted<W: WordClass>(
     input: &Input<'_>,
     sid: StateID,
 ) -> Option<PatternID> {
-    if sid.as_usize() >= program.len() {
+    if sid.as_usize() >= program.state_len() {
         return None;
     }
     let State::Accept { pattern } = program.state(sid) else {
@@ -109,7 +109,7 @@ fn run_from<W: WordClass>(
 // Writes what a run records.
 fn record<W: WordClass>(program: &Program<W>, run: &[Place], captures: &mut Captures) {
     for (sid, at) in run {
-        if sid.as_usize() < program.len() {
+        if sid.as_usize() < program.state_len() {
             record_one(program.state(*sid), *at, captures.slots_mut());
         }
     }

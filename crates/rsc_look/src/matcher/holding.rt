@@ -14,7 +14,7 @@ use crate::{Look, LookMatcher, LookSet, WordClass};
 use rsc_alphabet::Unit;
 
 impl<W: WordClass> LookMatcher<W> {
-    /// The assertions that hold at a position of a haystack.
+    /// The assertions that hold at a position of a haystack. The original lacks it.
     ///
     /// It reads each side once, so an engine that asks several sets of assertions at one position need not ask each of them: every assertion of
     /// a set holds, as by [`LookMatcher::matches_set`], exactly if the set is a subset of this one.
@@ -48,6 +48,7 @@ impl<W: WordClass> LookMatcher<W> {
     }
 
     /// The assertions about bytes that hold between a byte, or the start of the haystack, and a unit. No Unicode assertion is among them.
+    /// The original lacks it.
     ///
     /// This is what a table over units is filled by: a row knows the byte before, and a column is a unit.
     ///

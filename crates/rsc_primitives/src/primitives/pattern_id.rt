@@ -151,7 +151,7 @@ impl PatternID {
     pub fn iter(len: usize) -> PatternIDIter
         requires { len ≤ PatternID.LIMIT }
         ensures value { result ≡ range_with_len 0 len }
-        ensures below { All (λ index. index < len) result }
+        ensures within { All (λ index. index < len) result }
     {
         PatternIDIter { next_index: 0, len }
     }

@@ -136,13 +136,13 @@ impl SmallIndex {
         self.0.to_le_bytes()
     }
 
-    /// The indices from 0 to `len - 1`, ascending, where `len` is at most [`SmallIndex::LIMIT`].
+    /// The indices from 0 to `len - 1`, ascending, where `len` is at most [`SmallIndex::LIMIT`]. The original lacks it.
     #[inline]
     #[tactic(auto, using(crate::proofs::IndicesLemmas::indices_below))]
     pub fn iter(len: usize) -> SmallIndexIter
         requires { len ≤ SmallIndex.LIMIT }
         ensures value { result ≡ range_with_len 0 len }
-        ensures below { All (λ index. index < len) result }
+        ensures within { All (λ index. index < len) result }
     {
         SmallIndexIter { next_index: 0, len }
     }

@@ -141,7 +141,7 @@ impl StateID {
     pub fn iter(len: usize) -> StateIDIter
         requires { len ≤ StateID.LIMIT }
         ensures value { result ≡ range_with_len 0 len }
-        ensures below { All (λ index. index < len) result }
+        ensures within { All (λ index. index < len) result }
     {
         StateIDIter { next_index: 0, len }
     }

@@ -49,7 +49,7 @@ fn empty_matches_are_replaced(rt: HostRuntime) -> Result<(), Fail> {
 fn names_are_those_of_the_pattern_that_matched(rt: HostRuntime) -> Result<(), Fail> {
     let mut builder = Builder::new(rt.alloc());
     let keyed = part_of(rt.alloc(), &builder, "aaK,")?;
-    builder.pattern(keyed)?;
+    builder.add_pattern(keyed)?;
     let other = part_of(rt.alloc(), &builder, "bGcK,")?;
     let program = builder.build(AsciiWord, true, other)?;
     let out = replace_all(rt.alloc(), &program, b"aa-bc", b"[$key $1 $2]")?;

@@ -238,9 +238,9 @@ fn two_inputs_are_searched_over_one_cache(rt: HostRuntime) -> Result<(), Fail> {
 fn tokens_stand_side_by_side(rt: HostRuntime) -> Result<(), Fail> {
     let mut builder = Builder::new(rt.alloc());
     let keyword = builder.literal(b"if")?;
-    builder.pattern(keyword)?;
+    builder.add_pattern(keyword)?;
     let letters = builder.plus(builder.range(b'a', b'z'))?;
-    builder.pattern(letters)?;
+    builder.add_pattern(letters)?;
     let other = builder.range(0, 0xFF);
     let tokens = lexer::tokens_of(rt.alloc(), AsciiWord, builder, other, b"if x")?;
     assert!(rt; tokens.len() == 3);
@@ -258,7 +258,7 @@ fn tokens_have_the_span_of_a_group(rt: HostRuntime) -> Result<(), Fail> {
     let digits = builder.star(digit)?;
     let equals = builder.then(builder.literal(b"=")?, digits)?;
     let pair = builder.then(builder.range(b'a', b'z'), equals)?;
-    builder.pattern(pair)?;
+    builder.add_pattern(pair)?;
     let other = builder.range(0, 0xFF);
     let tokens = lexer::tokens_with_group(rt.alloc(), AsciiWord, builder, other, 1, b"a=12-b=")?;
     assert!(rt; tokens.len() == 3);

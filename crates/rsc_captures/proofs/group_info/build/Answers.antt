@@ -1,6 +1,6 @@
 use Rattle.std.proofs.Common.{◌∙◌}
 use Rattle.rsc_captures.proofs.GroupsLemmas.{length-lists_in}
-use Rattle.rsc_captures.proofs.LayoutLemmas.{held_are, layout_is}
+use Rattle.rsc_captures.proofs.SharedListsLayoutLemmas.{held_are, layout_is}
 use Rattle.rsc_captures.proofs.group_info.build.Goals as goal
 
 pub invariant_of-inner : goal.invariant_of-inner

@@ -3,7 +3,7 @@ use Rattle.rsc_captures.proofs.Prelude.{group_count, lists_in, Fault, Duplicate,
 use Rattle.rsc_captures.proofs.FaultsLemmas.{pattern_clear, before_more}
 use Rattle.rsc_captures.proofs.FaultsLayoutLemmas.{MatchOption-some_weaker}
 use Rattle.rsc_captures.proofs.GroupsLemmas.{length-lists_in, in_lists, groups_of_in, group_count_in}
-use Rattle.rsc_captures.proofs.LayoutLemmas.{ordered_more}
+use Rattle.rsc_captures.proofs.SharedListsLayoutLemmas.{ordered_more}
 use Rattle.rsc_captures.proofs.RepeatsLayoutLemmas.{repeat_of_pattern, none_more}
 use Rattle.rsc_captures.proofs.group_info.order_of.Goals as goal
 

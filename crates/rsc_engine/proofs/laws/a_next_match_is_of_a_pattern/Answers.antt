@@ -10,7 +10,7 @@ returns-clause-some g c = λ program patterns input last captures found r f.
 pub returns-clause-earlier : goal.returns-clause-earlier
 returns-clause-earlier g c = λ program patterns input last captures found other r f l opens m.
     why_passed (search_in g.W.WordClass.word_chars program input) patterns last other (λ one. r.exactly input one)
-    (f.is_next.passed other.span.start (omega (arith, l, f.is_of.ends.start)) opens) m
+    (f.is_next.left_out other.span.start (omega (arith, l, f.is_of.ends.start)) opens) m
 
 pub returns-clause-over : goal.returns-clause-over
 returns-clause-over g c = λ program patterns input last other r over opens m.

@@ -1,5 +1,5 @@
 use Rattle.std.proofs.Common.{refl, length}
-use Rattle.rsc_engine.specs.Preferred.{HasNone}
+use Rattle.rsc_engine.specs.Preferred.{HasNoFirstMatch}
 use Rattle.rsc_engine.specs.LinesLayout.{EndsFrom, search_from}
 use Rattle.rsc_engine.proofs.LinesLemmas.{candidate-around, none-around, none-of-search}
 use Rattle.rsc_engine.proofs.lines.candidate.Goals as goal
@@ -7,7 +7,7 @@ use Rattle.rsc_engine.proofs.lines.candidate.Goals as goal
 pub returns-in_default-clause-none : goal.returns-in_default-clause-none
 returns-in_default-clause-none g c =
     let e = search_from g.W.WordClass.word_chars c.args.dfa.now c.args.haystack.now c.args.from in
-    let none : HasNone e = rw c.in_default.is at c.in_ok-at.ensures.none in
+    let none : HasNoFirstMatch e = rw c.in_default.is at c.in_ok-at.ensures.none in
     none-of-search e (length c.args.haystack.now) refl refl none
 
 pub returns-clause-some : goal.returns-clause-some

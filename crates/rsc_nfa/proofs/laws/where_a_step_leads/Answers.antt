@@ -1,4 +1,4 @@
-use Rattle.rsc_nfa.proofs.FaultsLemmas.{faultless-names}
+use Rattle.rsc_nfa.proofs.StateFaultsLemmas.{faultless-names}
 use Rattle.rsc_nfa.proofs.LawsLemmas.{step-from, step-position, step-to}
 use Rattle.rsc_nfa.proofs.laws.where_a_step_leads.Goals as goal
 

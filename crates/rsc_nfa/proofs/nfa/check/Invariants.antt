@@ -1,5 +1,5 @@
 use Rattle.std.proofs.Common.{◌≡◌, ℕ, ◌<◌, None}
-use Rattle.rsc_nfa.specs.Faults.{fault_at}
+use Rattle.rsc_nfa.specs.StateFaults.{fault_at}
 use Rattle.rsc_nfa.proofs.nfa.check.Given as goal
 
 -- no state so far has a fault

@@ -9,8 +9,10 @@ copied : (at b n : ℕ) (ys : List ℕ) → b < 256 → at ≡ b → n ≡ get_o
     → ys ≡ take (8 * at + 8 - 8 * at) (drop (8 * at) STEP_TEXTS) → take n ys ≡ step_text b
 copied at b n ys low e l p =
     let width : 8 * at + 8 - 8 * at ≡ 8 = omega arith in
-    ap (take n) (p ∙ ap (λ m. take m (drop (8 * at) STEP_TEXTS)) width) ∙ take-take n 8 (drop (8 * at) STEP_TEXTS) (length_fits 8 STEP_LENGTHS b n refl low l)
-    ∙ ap (λ a. take n (drop (8 * a) STEP_TEXTS)) e ∙ ap (λ m. take m (drop (8 * b) STEP_TEXTS)) l ∙ tabled_is 8 STEP_TEXTS STEP_LENGTHS step_text refl b low
+    ap (take n) (p ∙ ap (λ m. take m (drop (8 * at) STEP_TEXTS)) width)
+    ∙ take-take n 8 (drop (8 * at) STEP_TEXTS) (length_fits 8 STEP_LENGTHS b n refl low l)
+    ∙ ap (λ a. take n (drop (8 * a) STEP_TEXTS)) e ∙ ap (λ m. take m (drop (8 * b) STEP_TEXTS)) l
+    ∙ tabled_is 8 STEP_TEXTS STEP_LENGTHS step_text refl b low
 
 pub returns-clause-most : goal.returns-clause-most
 returns-clause-most c =

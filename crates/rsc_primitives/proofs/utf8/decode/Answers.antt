@@ -7,10 +7,10 @@ use Rattle.rsc_primitives.proofs.utf8.decode.Goals as goal
 pub returns-in-Some : goal.returns-in-Some
 returns-in-Some c =
     let begins = begins_long _ _ c.in-Some.ensures in
-    record { answer = begins; width = BeginsAt-fits _ _ begins }
+    record { value = begins; within = BeginsAt-fits _ _ begins }
 
-pub returns-in-None-2-clause-answer : goal.returns-in-None-2-clause-answer
-returns-in-None-2-clause-answer c =
+pub returns-in-None-2-clause-value : goal.returns-in-None-2-clause-value
+returns-in-None-2-clause-value c =
     let h = c.args.bytes.now in
     let past_ascii = c.if-first-lt128.false in
     let first : get_or h 0 0 ≡ c.in_ok-first.field-0.now = get_or_from_slice_get h 0 _ 0 (sym c.in_ok-first.ensures.value) in

@@ -30,7 +30,7 @@ matches-init g c = record {
 
 pub matches-preserved : goal.matches-preserved
 matches-preserved g c =
-    let on = rw c.in-Some.is at c.in_ok-next.ensures.on in
+    let on = rw c.in-Some.is at c.in_ok-next.ensures.advanced in
     let next = rw c.in-Some.is at c.in_ok-next.ensures.found in
     let within = rw c.in-Some.is at c.in_ok-next.ensures.within in
     let expanded = c.in_ok-expand-in-Some.ensures.filled in
@@ -45,7 +45,7 @@ matches-preserved g c =
     expanded ∙ (ap (λ (x : List ℕ). c.extend_from_slice-in-Some.new.self.items ++ x) same ∙ ap (λ (x : List ℕ). x ++ text)
     (c.in_ok-extend_from_slice-in-Some.ensures.items ∙ ap (λ (x : List ℕ). c.matches.out.items ++ x) between)) in
     let slots : HasSlotsOf c.matches.matches.program c.next.new.captures =
-    (c.in_ok-next.ensures.groups ∙ c.matches.invariant.slots.0, c.in_ok-next.ensures.slots ∙ c.matches.invariant.slots.1) in
+    (c.in_ok-next.ensures.kept_groups ∙ c.matches.invariant.slots.0, c.in_ok-next.ensures.kept_slots ∙ c.matches.invariant.slots.1) in
     let begun = up_to_more g.W.WordClass.word_chars c.args.template.now c.args.most
     (record { program = c.args.program.now; input = whole c.args.text.now; last = None }) c.matches.left c.matches.matches c.matches.out.items
     c.in-Some.found c.next.new.captures (omega (arith, c.matches-test)) c.matches.invariant.begun next slots in

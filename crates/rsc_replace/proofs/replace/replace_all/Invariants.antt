@@ -1,6 +1,6 @@
 use Rattle.std.proofs.Common.{◌≡◌, ◌≤◌, None, length}
 use Rattle.rsc_search.specs.Inputs.{whole}
-use Rattle.rsc_engine.specs.NextMatches.{steps_left}
+use Rattle.rsc_engine.specs.NextMatches.{calls_left}
 use Rattle.rsc_engine.specs.PatternMatches.{HasSlotsOf}
 use Rattle.rsc_replace.proofs.ReplacementsLemmas.{IsBegun}
 use Rattle.rsc_replace.proofs.replace.replace_all.Given as goal
@@ -16,4 +16,4 @@ invariant-matches g l = record {
 }
 
 abbrev pub decreases-matches : goal.decreases-matches
-decreases-matches g l = steps_left l.matches.input.span.end l.matches.last
+decreases-matches g l = calls_left l.matches.input.span.end l.matches.last

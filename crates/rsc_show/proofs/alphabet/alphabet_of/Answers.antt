@@ -24,7 +24,8 @@ loop-look-preserved c =
           (c.kept_lists_are_joined.ensures.both q (take i looks) (look ∷ []) t W
           (c.loop-look.invariant.0 q (λ b lt e. h b lt (c.add_to_byteset.ensures.members b ∙ or_left (before b) (added b) e)))
           (exact.kept q h)),
-      λ r inside fills b lt boundary. c.add_to_byteset.ensures.members b ∙ or_left (before b) (added b) (c.loop-look.invariant.1 r inside fills b lt boundary),
+      λ r inside fills b lt boundary. c.add_to_byteset.ensures.members b
+          ∙ or_left (before b) (added b) (c.loop-look.invariant.1 r inside fills b lt boundary),
       λ b lt e.
           ⊎_elim (λ old. c.loop-look.invariant.2 b lt old)
           (λ new. inr (record { look = look; listed = Contains-get_or looks i Start c.loop-look-test.true; boundary = new }))

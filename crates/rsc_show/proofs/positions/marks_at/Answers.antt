@@ -12,4 +12,4 @@ loop-look-preserved c =
     let i = c.loop-look.look-index in
     rw (c.in_ok-push.ensures.items, take_more looks i Start c.loop-look-test.true)
     (AreMarks-push (λ look. Holds look c.args.matcher.now.0 (chosen_word_chars c.args.matcher.now.1) c.args.haystack.now c.args.at)
-    (take i looks) c.loop-look.marks.items (get_or looks i Start) c.matches.result c.loop-look.invariant c.matches.ensures.holds)
+    (take i looks) c.loop-look.marks.items (get_or looks i Start) c.matches.result c.loop-look.invariant c.matches.ensures.value)

@@ -14,8 +14,8 @@ returns-clause-longest c = λ e.
     let first = rw (c.in-Some.is, c.in_ok-run.ensures.part, c.range.ensures.part) at c.in_ok-find_part.ensures.first_end in
     a_run_is_longest (text_of c.args.haystack.now is_word_byte) c.args.first c.args.last c.in-Some.ends.0 c.in-Some.ends.1 (first refl) e
 
-pub returns-clause-some : goal.returns-clause-some
-returns-clause-some c =
+pub returns-clause-found : goal.returns-clause-found
+returns-clause-found c =
     let first = rw (c.in-Some.is, c.in_ok-run.ensures.part, c.range.ensures.part) at c.in_ok-find_part.ensures.first_end in
     a_run_has_a_byte (text_of c.args.haystack.now is_word_byte) c.args.first c.args.last c.in-Some.ends.0 c.in-Some.ends.1 (first refl)
 

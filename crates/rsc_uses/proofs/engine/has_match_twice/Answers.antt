@@ -17,4 +17,4 @@ pub returns-in-Some-clause-same : goal.returns-in-Some-clause-same
 returns-in-Some-clause-same g c =
     let found = rw c.in-Some.is at c.in_ok-find.ensures.found in
     some_then_true c.in_ok-by_table.by_table c.in_ok-by_table.ensures.none
-    (λ none. c.there_is_one_first_match.ensures.none _ _ (rw c.requires.of_program at none) found.is_first)
+    (λ none. c.at_most_one_first_match.ensures.none _ _ (rw c.requires.of_program at none) found.is_first)

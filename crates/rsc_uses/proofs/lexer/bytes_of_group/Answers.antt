@@ -28,8 +28,8 @@ slice_bounds-result-end g c =
     c.args.group c.in-Some-get_group.span c.in_ok-program.ensures.closes found (sym (rw c.in-Some-get_group.is at span)) in
     omega (arith, order.2, within.1)
 
-pub returns-clause-some : goal.returns-clause-some
-returns-clause-some g c =
+pub returns-clause-found : goal.returns-clause-found
+returns-clause-found g c =
     let p = pattern_of c.args.part in
     let program = c.in_ok-program.program in
     let matches = rw c.new.ensures.patterns at c.in_ok-program.ensures.matches in
@@ -68,7 +68,7 @@ returns-in-None-get_group-clause-none g c = λ first.
     let lists : program.automaton.groups ≡ groups_of_pattern c.args.part ∷ [] = rw c.new.ensures.groups at c.in_ok-program.ensures.groups in
     let found = rw (c.in-Some.is, c.new-input.ensures) at c.in_ok-find.ensures.found in
     let span = first_group program (groups_of_part c.args.part) c.in_ok-captures.captures c.find.new.captures c.in-Some.whole lists
-    c.in_ok-captures.ensures.made c.find.ensures.slots c.find.ensures.groups
+    c.in_ok-captures.ensures.made c.find.ensures.kept_slots c.find.ensures.kept_groups
     (number_of p (search_in g.W.WordClass.word_chars program (whole c.args.text.now)) c.in-Some.whole
     (c.a_first_match_is_of_a_pattern.ensures.some program (p ∷ []) (whole c.args.text.now) _ _ matches found))
     (c.the_first_group_is_the_match.ensures.first_group program (whole c.args.text.now) _ _ c.in_ok-program.ensures.ends found) in

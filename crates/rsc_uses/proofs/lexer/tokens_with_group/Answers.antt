@@ -22,9 +22,9 @@ matches-init g c =
 
 pub matches-preserved : goal.matches-preserved
 matches-preserved g c =
-    let on = rw c.in-Some.is at c.in_ok-next.ensures.on in
-    let groups = c.next.ensures.groups ∙ c.matches.invariant.groups in
-    let slots = c.next.ensures.slots ∙ c.matches.invariant.slots in
+    let on = rw c.in-Some.is at c.in_ok-next.ensures.advanced in
+    let groups = c.next.ensures.kept_groups ∙ c.matches.invariant.groups in
+    let slots = c.next.ensures.kept_slots ∙ c.matches.invariant.slots in
     record {
       first = rw (c.in_ok-push-in-Some.ensures.items, on)
           (first_more (IsNextWith g.W.WordClass.word_chars c.args.group) (λ left both. after left both.0) c.in_ok-matches.matches c.matches.all.items
@@ -43,8 +43,8 @@ matches-preserved g c =
 
 pub matches-smaller : goal.matches-smaller
 matches-smaller g c =
-    let on = rw c.in-Some.is at c.in_ok-next.ensures.on in
-    let later = rw c.in-Some.is at c.in_ok-next.ensures.later in
+    let on = rw c.in-Some.is at c.in_ok-next.ensures.advanced in
+    let later = rw c.in-Some.is at c.in_ok-next.ensures.order in
     let within = rw c.in-Some.is at c.in_ok-next.ensures.within in
     rw on (c.an_iteration_ends.ensures c.matches.matches.input.span.end c.in-Some.found.span.end c.matches.matches.last later within.2)
 

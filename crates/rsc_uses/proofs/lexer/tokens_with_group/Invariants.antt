@@ -1,6 +1,6 @@
 use Rattle.std.proofs.Common.{◌≡◌, ◌*◌, length}
 use Rattle.rsc_captures.specs.Groups.{all_groups}
-use Rattle.rsc_engine.specs.NextMatches.{after, steps_left}
+use Rattle.rsc_engine.specs.NextMatches.{after, calls_left}
 use Rattle.rsc_uses.proofs.EngineLemmas.{AreFirst}
 use Rattle.rsc_uses.proofs.LexedLemmas.{IsNextWith}
 use Rattle.rsc_uses.proofs.lexer.tokens_with_group.Given as goal
@@ -15,4 +15,4 @@ invariant-matches g l = record {
 }
 
 abbrev pub decreases-matches : goal.decreases-matches
-decreases-matches g l = steps_left l.matches.input.span.end l.matches.last
+decreases-matches g l = calls_left l.matches.input.span.end l.matches.last

@@ -17,7 +17,7 @@ returns-in-None-clause-all g c =
 
 pub lines-preserved : goal.lines-preserved
 lines-preserved g c =
-    let on = rw c.in-Some.is at c.in_ok-next.ensures.on in
+    let on = rw c.in-Some.is at c.in_ok-next.ensures.advanced in
     record {
       first = rw (c.in_ok-push-in-Some.ensures.items, on)
           (first_more (IsNextLine g.W.WordClass.word_chars) after_line (record { program = c.args.dfa; haystack = c.args.text.now; at = 0 }) c.lines.all.items
@@ -27,6 +27,6 @@ lines-preserved g c =
 
 pub lines-smaller : goal.lines-smaller
 lines-smaller g c =
-    let on = rw c.in-Some.is at c.in_ok-next.ensures.on in
+    let on = rw c.in-Some.is at c.in_ok-next.ensures.advanced in
     let within = rw c.in-Some.is at c.in_ok-next.ensures.within in
     rw on (omega (arith, within.0, within.1, within.2))

@@ -10,9 +10,9 @@ loop-at-preserved g c =
     elim c.if-matches.branch [
       | then-matches+in_ok-push w ↦
           let e : c.if-matches.found.items ≡ c.loop-at.found.items ++ c.loop-at.at ∷ [] = grind rules in
-          rw e (listed_push P c.loop-at.at c.loop-at.found.items c.loop-at.invariant (c.matches.ensures.holds.0 w.if-matches.true))
+          rw e (listed_push P c.loop-at.at c.loop-at.found.items c.loop-at.invariant (c.matches.ensures.value.0 w.if-matches.true))
       | else-matches w ↦
           let e : c.if-matches.found.items ≡ c.loop-at.found.items = grind rules in
           rw e (listed_skip P c.loop-at.at c.loop-at.found.items c.loop-at.invariant
-          (λ p. true≢false (sym (c.matches.ensures.holds.1 p) ∙ w.if-matches.false)))
+          (λ p. true≢false (sym (c.matches.ensures.value.1 p) ∙ w.if-matches.false)))
     ]

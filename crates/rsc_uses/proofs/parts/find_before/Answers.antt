@@ -21,7 +21,7 @@ returns-clause-goes g c =
     let lists = rw (c.new-builder.ensures.groups, c.in_ok-both.ensures.groups, c.in_ok-group.ensures.groups) at c.in_ok-program.ensures.groups in
     let found = rw (c.in-Some.is, c.new-input.ensures) at c.in_ok-find.ensures.found in
     let same : c.find.new.captures.groups ≡ program.automaton.groups =
-    c.find.ensures.groups ∙ ap (λ (k : Captured). k.groups) c.in_ok-captures.ensures.made in
+    c.find.ensures.kept_groups ∙ ap (λ (k : Captured). k.groups) c.in_ok-captures.ensures.made in
     group_goes g.W.WordClass.word_chars program c.args.word_class p q (groups_of_part c.args.part ++ groups_of_part c.args.after) c.args.haystack.now
     c.in-Some.field-0 c.in-Some-get_group.span.start c.in-Some-get_group.span.end c.in_ok-program.ensures.matcher lists
     (c.a_first_match_is_of_a_pattern.ensures.some program (both ∷ []) (whole c.args.haystack.now) _ _ matches found)
@@ -55,9 +55,9 @@ returns-in-None-get_group-clause-none g c =
     (its_of both e found is_in) in
     let slot_of = slot_number program.automaton.groups found.pattern in
     let room = group_there program.automaton.groups (groups_of_part c.args.part ++ groups_of_part c.args.after) c.in_ok-captures.captures c.find.new.captures
-    found.pattern lists c.in_ok-captures.ensures.made c.find.ensures.slots (number_of both e found is_in) in
+    found.pattern lists c.in_ok-captures.ensures.made c.find.ensures.kept_slots (number_of both e found is_in) in
     let same : c.find.new.captures.groups ≡ program.automaton.groups =
-    c.find.ensures.groups ∙ ap (λ (k : Captured). k.groups) c.in_ok-captures.ensures.made in
+    c.find.ensures.kept_groups ∙ ap (λ (k : Captured). k.groups) c.in_ok-captures.ensures.made in
     let span = c.a_group_spans_what_its_way_records.ensures program.automaton.groups c.find.new.captures found w.0 1 same
     (record { pattern = first.is_of.pattern; slots = w.2 }) room.0 room.1 in
     absurd (span_set (subject_of e) (2 * found.pattern) (slot_of 1) (numbered slot_of 2 p) (numbered slot_of (1 + count_groups (Group 0 p)) q)

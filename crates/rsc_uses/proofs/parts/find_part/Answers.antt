@@ -9,8 +9,8 @@ returns-in-None-clause-none g c = λ i j before within.
     (rw c.new.ensures.patterns at c.in_ok-program.ensures.built) c.in_ok-program.ensures.matcher
     (rw (c.in-None.is, c.new-input.ensures) at c.in_ok-find.ensures.none) refl i j (omega arith) before (λ other. absurd (other refl)) within
 
-pub returns-clause-some : goal.returns-clause-some
-returns-clause-some g c =
+pub returns-clause-found : goal.returns-clause-found
+returns-clause-found g c =
     let one = c.a_match_of_one_pattern.ensures.first c.in_ok-program.program (pattern_of c.args.part) (groups_of_pattern c.args.part) (10, c.args.word_class)
     (whole c.args.haystack.now) _ c.in-Some.found (rw c.new.ensures.patterns at c.in_ok-program.ensures.built)
     (rw c.new.ensures.groups at c.in_ok-program.ensures.groups) c.in_ok-program.ensures.matcher

@@ -9,7 +9,7 @@ returns-clause-start g c =
     c.args.input.now _ c.in-Some.found (rw c.new.ensures.patterns at c.in_ok-program.ensures.built)
     (rw c.new.ensures.groups at c.in_ok-program.ensures.groups) c.in_ok-program.ensures.matcher (rw c.in-Some.is at c.in_ok-find.ensures.found) in
     let room = has_room c.in_ok-program.program (groups_of_part c.args.part) c.in_ok-captures.captures c.find.new.captures
-    (rw c.new.ensures.groups at c.in_ok-program.ensures.groups) c.in_ok-captures.ensures.made c.find.ensures.slots in
+    (rw c.new.ensures.groups at c.in_ok-program.ensures.groups) c.in_ok-captures.ensures.made c.find.ensures.kept_slots in
     rw one.0.number at (c.the_first_group_is_the_match.ensures.first_start c.in_ok-program.program c.args.input.now _ _ c.in_ok-program.ensures.ends
     (rw c.in-Some.is at c.in_ok-find.ensures.found) (omega (arith, one.0.number, room)))
 
@@ -19,7 +19,7 @@ returns-clause-end g c =
     c.args.input.now _ c.in-Some.found (rw c.new.ensures.patterns at c.in_ok-program.ensures.built)
     (rw c.new.ensures.groups at c.in_ok-program.ensures.groups) c.in_ok-program.ensures.matcher (rw c.in-Some.is at c.in_ok-find.ensures.found) in
     let room = has_room c.in_ok-program.program (groups_of_part c.args.part) c.in_ok-captures.captures c.find.new.captures
-    (rw c.new.ensures.groups at c.in_ok-program.ensures.groups) c.in_ok-captures.ensures.made c.find.ensures.slots in
+    (rw c.new.ensures.groups at c.in_ok-program.ensures.groups) c.in_ok-captures.ensures.made c.find.ensures.kept_slots in
     rw one.0.number at (c.the_first_group_is_the_match.ensures.first_end c.in_ok-program.program c.args.input.now _ _ c.in_ok-program.ensures.ends
     (rw c.in-Some.is at c.in_ok-find.ensures.found) (omega (arith, one.0.number, room)))
 
@@ -29,14 +29,14 @@ returns-clause-group g c =
     c.args.input.now _ c.in-Some.found (rw c.new.ensures.patterns at c.in_ok-program.ensures.built)
     (rw c.new.ensures.groups at c.in_ok-program.ensures.groups) c.in_ok-program.ensures.matcher (rw c.in-Some.is at c.in_ok-find.ensures.found) in
     first_group c.in_ok-program.program (groups_of_part c.args.part) c.in_ok-captures.captures c.find.new.captures c.in-Some.found
-    (rw c.new.ensures.groups at c.in_ok-program.ensures.groups) c.in_ok-captures.ensures.made c.find.ensures.slots c.find.ensures.groups one.0.number
+    (rw c.new.ensures.groups at c.in_ok-program.ensures.groups) c.in_ok-captures.ensures.made c.find.ensures.kept_slots c.find.ensures.kept_groups one.0.number
     (c.the_first_group_is_the_match.ensures.first_group c.in_ok-program.program c.args.input.now _ _ c.in_ok-program.ensures.ends
     (rw c.in-Some.is at c.in_ok-find.ensures.found))
 
 pub returns-clause-slots : goal.returns-clause-slots
 returns-clause-slots g c =
     count_slots (groups_of_pattern c.args.part ∷ []) c.in_ok-program.program.automaton.groups c.in_ok-captures.captures c.find.new.captures
-    (rw c.new.ensures.groups at c.in_ok-program.ensures.groups) c.in_ok-captures.ensures.made c.find.ensures.slots
+    (rw c.new.ensures.groups at c.in_ok-program.ensures.groups) c.in_ok-captures.ensures.made c.find.ensures.kept_slots
 
 pub returns-clause-preferred : goal.returns-clause-preferred
 returns-clause-preferred g c =

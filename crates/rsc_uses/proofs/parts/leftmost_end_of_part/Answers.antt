@@ -25,7 +25,8 @@ returns-clause-first g c =
           let least = one.3 _ (match_of chars program c.args.word_class p [] c.args.haystack.now k j matcher within goes) in
           absurd (omega (arith, least, before)),
       λ loops.
-          ends_to (text_of c.args.haystack.now (chars c.args.word_class)) p (λ j. j ≤ length c.args.haystack.now) one.0.span.start one.0.span.end c.in-Some.end
+          ends_to (text_of c.args.haystack.now (chars c.args.word_class)) p
+          (λ j. j ≤ length c.args.haystack.now) one.0.span.start one.0.span.end c.in-Some.end
           one.2
           (first_end_of chars program c.args.word_class p c.args.haystack.now one.0 matcher one.1
           (λ its.

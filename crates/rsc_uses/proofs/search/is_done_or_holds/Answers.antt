@@ -4,7 +4,7 @@ use Rattle.rsc_uses.proofs.search.is_done_or_holds.Goals as goal
 
 pub returns-else-is_done : goal.returns-else-is_done
 returns-else-is_done c =
-    let h = rw (c.new.ensures, c.haystack.ensures.bytes, c.start.ensures.value) at c.matches.ensures.holds in (
+    let h = rw (c.new.ensures, c.haystack.ensures.value, c.start.ensures.value) at c.matches.ensures.value in (
       λ t. inr (h.0 t),
-      ⊎_elim (λ d. absurd (false≢true (c.if-is_done.ensures.done.1 d))) h.1,
+      ⊎_elim (λ d. absurd (false≢true (c.if-is_done.ensures.value.1 d))) h.1,
     )

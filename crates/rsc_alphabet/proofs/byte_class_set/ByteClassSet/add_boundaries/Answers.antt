@@ -9,4 +9,4 @@ returns c =
     rw (← c.self.view_is) (boundaries_joined ends c.union.result c.union-self-inside.result (λ k. sets.contains c.args.starts.now (k + 1))
     (sets.contains c.args.ends.now)
     (λ b. c.union.ensures.members b ∙ ap (λ x. sets.contains ends b || x) (c.predecessors.ensures b)) c.union-self-inside.ensures.members
-    c.union-self-inside.ensures.bytes)
+    c.union-self-inside.ensures.most)

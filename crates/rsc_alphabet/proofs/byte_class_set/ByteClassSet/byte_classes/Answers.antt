@@ -11,8 +11,8 @@ returns-2-clause-value c =
     rw (← c.self.view_is, c.set.ensures, c.count_below.ensures.value) (map_of_counts c.self.inside.ends _ (length-set l.classes l.byte _ ∙ l.invariant.0)
     (λ b h. class_more (class_of (sets.contains c.self.inside.ends)) l.classes l.byte l.invariant.0 l.invariant.1 (omega arith) b (omega (arith, h))))
 
-pub returns-2-clause-below : goal.returns-2-clause-below
-returns-2-clause-below c = rw (← c.self.view_is) (boundary_below c.self.inside.ends c.count_below.ensures.bytes)
+pub returns-2-clause-most : goal.returns-2-clause-most
+returns-2-clause-most c = rw (← c.self.view_is) (boundary_below c.self.inside.ends c.count_below.ensures.most)
 
 pub returns-2-clause-bounded : goal.returns-2-clause-bounded
 returns-2-clause-bounded c = subst LastClassIsGreatest (sym (returns-2-clause-value c)) (class_map-bounded (sets.contains c.args.self.now))

@@ -6,4 +6,4 @@ pub returns : goal.returns
 returns c =
     let list = ap₂ (λ t u. zip t u) c.new.ensures c.new-2.ensures
     ∙ zip-runs c.args.self.now c.run_starts.result c.run_ends.result c.run_starts.ensures c.run_ends.ensures in
-    record { value = list; ordered = rw list (runs_ordered c.args.self.now) }
+    record { value = list; order = rw list (runs_ordered c.args.self.now) }

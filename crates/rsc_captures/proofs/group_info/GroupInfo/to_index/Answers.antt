@@ -1,5 +1,5 @@
 use Rattle.rsc_captures.proofs.GroupsLemmas.{index_of-is, index_of-within}
-use Rattle.rsc_captures.proofs.LayoutLemmas.{distinct_in}
+use Rattle.rsc_captures.proofs.SharedListsLayoutLemmas.{distinct_in}
 use Rattle.rsc_captures.proofs.Prelude.{groups_of, max_index, IsFaultless}
 use Rattle.rsc_captures.proofs.group_info.GroupInfo.to_index.Goals as goal
 

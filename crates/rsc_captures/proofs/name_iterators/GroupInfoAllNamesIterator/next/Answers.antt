@@ -1,6 +1,6 @@
 use Rattle.std.proofs.Common.{◌≡◌, refl, sym, ◌∙◌, arith, rules, option_copied}
 use Rattle.rsc_captures.specs.Groups.{name_of}
-use Rattle.rsc_captures.proofs.LayoutLemmas.{within_names, name_in}
+use Rattle.rsc_captures.proofs.SharedListsLayoutLemmas.{within_names, name_in}
 use Rattle.rsc_captures.proofs.NameIteratorsLemmas.{IsNext, IsNext-passed, next_stays, next_enters, left_more}
 use Rattle.rsc_captures.proofs.name_iterators.GroupInfoAllNamesIterator.next.Goals as goal
 use Rattle.rsc_captures.proofs.name_iterators.GroupInfoAllNamesIterator.next.Goals.{then-self+else-self-count, else-self}

@@ -1,5 +1,5 @@
 use Rattle.std.proofs.Common.{arith}
-use Rattle.rsc_captures.proofs.LayoutLemmas.{range_is}
+use Rattle.rsc_captures.proofs.SharedListsLayoutLemmas.{range_is}
 use Rattle.rsc_captures.proofs.name_iterators.GroupInfoPatternNames.new.Goals as goal
 
 pub invariant_of-result-2 : goal.invariant_of-result-2

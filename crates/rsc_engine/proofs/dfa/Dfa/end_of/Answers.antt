@@ -1,7 +1,7 @@
 use Rattle.std.proofs.Common.{◌∙◌, IfSome, IfNone}
 use Rattle.rsc_engine.specs.Searches.{search_in}
 use Rattle.rsc_engine.specs.Ends.{IsEarliestEnd}
-use Rattle.rsc_engine.specs.Preferred.{HasNone}
+use Rattle.rsc_engine.specs.Preferred.{HasNoFirstMatch}
 use Rattle.rsc_engine.specs.OrderedLayout.{IsEndOf}
 use Rattle.rsc_engine.specs.AheadLayout.{start_at}
 use Rattle.rsc_engine.proofs.FirstBytesLayoutLemmas.{end-earlier, earliest-earlier, none-earlier, map_none}
@@ -38,7 +38,7 @@ returns-clause-none g c =
     let e = search_in g.W.WordClass.word_chars c.args.self.now c.args.input.now in
     let s = c.first_begin.result in
     let part = c.part_from-rest.ensures in
-    let none : IfNone c.in_ok-found.found (HasNone (start_at e s)) =
+    let none : IfNone c.in_ok-found.found (HasNoFirstMatch (start_at e s)) =
     rw (c.self.view_is ∙ c.lacks_needed.ensures.kept, part.haystack, part.start, part.end, part.anchored) at c.in_ok-found.ensures.none in
-    map_none c.in_ok-found.found (HasNone (start_at e s)) (HasNone e)
+    map_none c.in_ok-found.found (HasNoFirstMatch (start_at e s)) (HasNoFirstMatch e)
     (none-earlier e s c.first_begin.ensures.low (rw c.lacks_needed.ensures.kept at c.first_begin.ensures.none) c.first_begin.ensures.anchored) none

@@ -6,4 +6,4 @@ pub returns-in-Some-clause-none : goal.returns-in-Some-clause-none
 returns-in-Some-clause-none g c = λ at low below.
     none_begins (search_in g.W.WordClass.word_chars c.args.self.now c.args.input.now) c.in-Some.first.range
     (rw (c.in-Some.is, c.self.view_is) at c.self.invariant.5) at
-    (λ _. (rw (c.haystack.ensures.bytes, c.start-start.ensures.value) at c.next_in.ensures.none) at low below)
+    (λ _. (rw (c.haystack.ensures.value, c.start-start.ensures.value) at c.next_in.ensures.none) at low below)

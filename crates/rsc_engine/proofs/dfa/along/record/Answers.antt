@@ -14,7 +14,7 @@ trail-preserved g c = λ front had.
     take_more c.args.trail.now c.trail.k c.index-trail-k.result short
     ∙ ap (λ s. take c.trail.k c.args.trail.now ++ s ∷ []) (sym c.index-trail-k.is) in
     records-more c.args.program.now.automaton.states front c.args.at c.index-trail-k.result (take c.trail.k c.args.trail.now)
-    (take (c.trail.k + 1) c.args.trail.now) c.state.result c.trail.slots c.record_one.new.slots is c.state.ensures.state c.record_one.auto.slots
+    (take (c.trail.k + 1) c.args.trail.now) c.state.result c.trail.slots c.record_one.new.slots is c.state.ensures.value c.record_one.auto.slots
     c.record_one.ensures (c.trail.invariant front had)
 
 pub returns : goal.returns

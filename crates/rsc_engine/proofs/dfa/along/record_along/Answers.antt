@@ -52,7 +52,7 @@ returns-in-Some-known-clause-recorded g c =
     let e = search_in g.W.WordClass.word_chars c.args.program.now c.args.input.now in
     let goes : GoesTo e c.args.start c.in-Some-known.last.0 c.in-Some-known.last.1 =
     subst (λ o. IfSome o (λ k. GoesTo e c.args.start k.0 k.1)) c.in-Some-known.is c.positions.invariant.known in
-    let led : IsLed e c.args.start c.in_ok-next.next (c.positions.at + 1) c.pass.new.slots =
+    let led : IsLed e c.args.start c.in_ok-next.next (c.positions.at + 1) c.go_through.new.slots =
     rw c.in_default.is at (c.in_ok-next.ensures.on c.args.start
     (logged-lists e c.args.start c.positions.at c.end-end.result c.args.table.now.rows.items c.args.log.now c.list_at-list.result.now
     c.positions.invariant.low c.positions.invariant.from c.positions.invariant.to c.end-end.ensures.value c.requires.log c.list_at-list.ensures)
@@ -60,14 +60,14 @@ returns-in-Some-known-clause-recorded g c =
     record {
       goes = goes;
       records = quiet-records e c.args.start c.in-Some-known.last.0 c.in-Some-known.last.1 goes c.in_ok-next.next (c.positions.at + 1) c.args.loud.now
-          c.pass.new.slots c.set_slot.new.slots c.requires.quiet (c.is_quiet.ensures c.if-is_quiet.true) led c.set_slot.ensures.len
+          c.go_through.new.slots c.set_slot.new.slots c.requires.quiet (c.is_quiet.ensures c.if-is_quiet.true) led c.set_slot.ensures.len
           (λ k l. rw c.as_usize.ensures.value at (c.set_slot.ensures.written k l));
     }
 
 pub positions-smaller : goal.positions-smaller
 positions-smaller g c =
     let e = search_in g.W.WordClass.word_chars c.args.program.now c.args.input.now in
-    let led : IsLed e c.args.start c.in_ok-next.next (c.positions.at + 1) c.pass.new.slots =
+    let led : IsLed e c.args.start c.in_ok-next.next (c.positions.at + 1) c.go_through.new.slots =
     rw c.in_default.is at (c.in_ok-next.ensures.on c.args.start
     (logged-lists e c.args.start c.positions.at c.end-end.result c.args.table.now.rows.items c.args.log.now c.list_at-list.result.now
     c.positions.invariant.low c.positions.invariant.from c.positions.invariant.to c.end-end.ensures.value c.requires.log c.list_at-list.ensures)
@@ -77,7 +77,7 @@ positions-smaller g c =
 pub positions-preserved : goal.positions-preserved
 positions-preserved g c =
     let e = search_in g.W.WordClass.word_chars c.args.program.now c.args.input.now in
-    let led : IsLed e c.args.start c.in_ok-next.next (c.positions.at + 1) c.pass.new.slots =
+    let led : IsLed e c.args.start c.in_ok-next.next (c.positions.at + 1) c.go_through.new.slots =
     rw c.in_default.is at (c.in_ok-next.ensures.on c.args.start
     (logged-lists e c.args.start c.positions.at c.end-end.result c.args.table.now.rows.items c.args.log.now c.list_at-list.result.now
     c.positions.invariant.low c.positions.invariant.from c.positions.invariant.to c.end-end.ensures.value c.requires.log c.list_at-list.ensures)

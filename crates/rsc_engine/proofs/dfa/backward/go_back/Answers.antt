@@ -11,15 +11,15 @@ pub rows-init : goal.rows-init
 rows-init g c =
     let e = search_in g.W.WordClass.word_chars c.args.plan.now.program.now c.args.input.now in
     let after : c.after_of-after.result ≡ byte_after c.args.input.now.haystack c.args.input.now.span.end =
-    rw (c.haystack.ensures.bytes, c.end-end.ensures.value) at c.after_of-after.ensures.value in
+    rw (c.haystack.ensures.value, c.end-end.ensures.value) at c.after_of-after.ensures.value in
     let row = rw c.get_anchored-mode.ensures at c.in_ok-row.ensures.row in
-    let stands = stands-back-first e c.args.plan.now.classes c.last_row.new.self.rows.items c.in_ok-row.row c.after_of-after.result
+    let stands = stands-back-first e c.args.plan.now.classes c.backward_row.new.self.rows.items c.in_ok-row.row c.after_of-after.result
     c.requires.order after row in
     record {
-      exact = c.last_row.ensures.exact;
+      exact = c.backward_row.ensures.exact;
       on = rw c.end-end.ensures.value (record {
         stands = stands;
-        logged = logged-first e c.args.plan.now.classes c.last_row.new.self.rows.items c.in_ok-row.row c.args.input.now.span.end
+        logged = logged-first e c.args.plan.now.classes c.backward_row.new.self.rows.items c.in_ok-row.row c.args.input.now.span.end
             c.add_to_log.new.log.items (c.in_ok-add_to_log.ensures.adds ∙ ap (λ l. l ++ c.in_ok-row.row ∷ []) c.clear.ensures.items) stands;
       });
       row = slice_get_within _ _ row.to row.there;

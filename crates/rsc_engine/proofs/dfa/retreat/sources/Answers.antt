@@ -15,10 +15,10 @@ states-preserved g c =
     elim c.if-is_source.branch [
       | then-is_source+in_ok-push w ↦ rw (w.list-is, w.in_ok-push.ensures.items)
           (listed-hit _ _ _ _ _ c.states.invariant c.must-sid.ensures l
-          (omega (arith, c.if-at-eq0.false), rw c.haystack.ensures.bytes at (c.is_source.ensures.yes w.if-is_source.true)))
+          (omega (arith, c.if-at-eq0.false), rw c.haystack.ensures.value at (c.is_source.ensures.yes w.if-is_source.true)))
       | else-is_source w ↦ rw w.list-is
           (listed-miss _ _ _ _ _ c.states.invariant c.must-sid.ensures l
-          (λ x. (rw c.haystack.ensures.bytes at (c.is_source.ensures.no w.if-is_source.false)) x.1))
+          (λ x. (rw c.haystack.ensures.value at (c.is_source.ensures.no w.if-is_source.false)) x.1))
     ]
 
 pub returns-clause-sources : goal.returns-clause-sources

@@ -20,6 +20,6 @@ pub returns-clause-taken : goal.returns-clause-taken
 returns-clause-taken g c = λ program p groups matcher utf8 input last captures found built lists is text f.
     rw (← is) (taken-of-one g.W.WordClass.word_chars program p input built groups utf8 last captures found lists text f)
 
-pub returns-clause-passed : goal.returns-clause-passed
-returns-clause-passed g c = λ program p groups matcher utf8 input last built lists is text over.
+pub returns-clause-left_out : goal.returns-clause-left_out
+returns-clause-left_out g c = λ program p groups matcher utf8 input last built lists is text over.
     rw (← is) (passed-of-one g.W.WordClass.word_chars program p input built groups utf8 last lists text over)

@@ -1,5 +1,5 @@
-use Rattle.rsc_engine.specs.NextMatches.{steps_left}
+use Rattle.rsc_engine.specs.NextMatches.{calls_left}
 use Rattle.rsc_example.proofs.pieces.Pieces.print_matches.Given as goal
 
 abbrev pub decreases-loop-found : goal.decreases-loop-found
-decreases-loop-found g l = steps_left l.matches.input.span.end l.matches.last
+decreases-loop-found g l = calls_left l.matches.input.span.end l.matches.last

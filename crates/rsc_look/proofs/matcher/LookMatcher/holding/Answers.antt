@@ -5,7 +5,8 @@ use Rattle.rsc_look.proofs.matcher.LookMatcher.holding.Goals as goal
 
 pub returns-clause-members : goal.returns-clause-members
 returns-clause-members g c = λ look.
-    rw (← c.self.view_is) (holds_by_tables look c.self.inside.line_terminator (g.W.WordClass.word_chars c.self.inside.word_class) c.args.haystack.now c.args.at
+    rw (← c.self.view_is)
+    (holds_by_tables look c.self.inside.line_terminator (g.W.WordClass.word_chars c.self.inside.word_class) c.args.haystack.now c.args.at
     c.near_side_before.result c.near_side_after.result _
     (rw (← c.self.view_is) at c.near_side_before.ensures) (rw (← c.self.view_is) at c.near_side_after.ensures)
     (c.union.ensures.members look

@@ -18,7 +18,7 @@ loop-look-preserved g c = (
   tt,
   HasAsked-more c.args.set c.in-Some.look c.loop-look.look-iterator c.next.new.self
       (λ look. Holds look c.args.self.now.0 (g.W.WordClass.word_chars c.args.self.now.1) c.args.haystack.now c.args.at) c.loop-look.invariant.2
-      c.in-Some.ensures.steps (c.matches.ensures.holds.0 c.if-not-matches.false),
+      c.in-Some.ensures.steps (c.matches.ensures.value.0 c.if-not-matches.false),
 )
 
 pub returns : goal.returns

@@ -24,7 +24,7 @@ returns-then-more-block g c =
       value = with_one_more s.capacity s.blocks.items c.self.invariant.spare_clear _ _
           (same_at c.self.invariant _ _ (below g with) c.as_usize-p.ensures.value c.index-block.ensures c.with_bit-more.ensures.bits is);
       new = ap not (sym (has_member-set s.capacity s.blocks.items c.self.invariant.spare_clear c.args.pid ∙ is));
-      len = refl;
+      count = refl;
       within = members_within s.capacity s.blocks.items;
     })
 
@@ -46,6 +46,6 @@ returns g c =
     rw (← c.self.view_is) (record {
       value = with_one_more s.capacity s.blocks.items c.self.invariant.spare_clear _ _ at;
       new = ap not (sym (has_member-set s.capacity s.blocks.items c.self.invariant.spare_clear c.args.pid ∙ out));
-      len = one_more_member s.capacity s.blocks.items c.self.invariant.spare_clear _ _ at (below g with) out;
+      count = one_more_member s.capacity s.blocks.items c.self.invariant.spare_clear _ _ at (below g with) out;
       within = members_within s.capacity _;
     })

@@ -18,7 +18,7 @@ returns g c =
     rw (← c.self.view_is, members) (record {
       value = refl;
       ascending = of_set.ascending;
-      below = of_set.below;
+      within = of_set.below;
       contained = all_members (patterns_held c.self.inside.capacity c.self.inside.blocks.items).members;
       lawful = of_set;
     })

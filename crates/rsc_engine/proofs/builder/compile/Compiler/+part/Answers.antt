@@ -33,7 +33,8 @@ pub one_of-returns-then-is_empty : goal.one_of-returns-then-is_empty
 one_of-returns-then-is_empty t c =
     let none : length c.args.parts.now ≡ 0 = search rules in
     built-with c.never.result _ _ _
-    (λ first x one. BuildsPart-nothing _ _ _ _ _ first c.args.next (map pattern_in c.args.parts.now) (length-map c.args.parts.now pattern_in ∙ none) (x _) one)
+    (λ first x one. BuildsPart-nothing _ _ _ _ _ first c.args.next (map pattern_in c.args.parts.now)
+    (length-map c.args.parts.now pattern_in ∙ none) (x _) one)
     c.never.ensures.builds c.never.ensures.size
 
 pub one_of-loop-index-init : goal.one_of-loop-index-init
@@ -119,9 +120,9 @@ up_to-loop-done-init t c =
 pub group-returns : goal.group-returns
 group-returns t c =
     let lists = c.args.slots.now.info.now in
-    let number : ℕ = c.part.new.self.left - 1 in
-    let some : 0 < number = omega (arith, c.requires.left, c.in_ok-body.ensures.0) in
-    let there : number < group_count lists c.args.slots.now.pattern = omega (arith, c.requires.groups, c.requires.left, c.in_ok-body.ensures.0) in
+    let number : ℕ = c.part.new.self.unnumbered - 1 in
+    let some : 0 < number = omega (arith, c.requires.unnumbered, c.in_ok-body.ensures.0) in
+    let there : number < group_count lists c.args.slots.now.pattern = omega (arith, c.requires.groups, c.requires.unnumbered, c.in_ok-body.ensures.0) in
     let above = group-slots lists c.args.slots.now.pattern number some (pattern_there lists c.args.slots.now.pattern number there) in
     built-weaker c.add-2.result _ _
     (λ id a. BuildsPart-group (slot_number lists c.args.slots.now.pattern) _ _ _ number _ _ _ _ _ _ _ _ _ id _ (pattern_in c.args.sub.now)
@@ -172,7 +173,7 @@ concat-part-requires t c = (
       let room = rw back at (in_order-room pattern_in c.args.parts.now (c.loop-index.index - 1) c.index-parts-index.result there c.index-parts-index.is) in
       let left = rw back at (in_order-left pattern_in c.args.parts.now (c.loop-index.index - 1) c.index-parts-index.result there c.index-parts-index.is) in (
         omega (arith, c.requires.room, c.loop-index.invariant.2, room),
-        (omega (arith, c.requires.left, c.loop-index.invariant.0, left), omega (arith, c.requires.groups, c.loop-index.invariant.0)),
+        (omega (arith, c.requires.unnumbered, c.loop-index.invariant.0, left), omega (arith, c.requires.groups, c.loop-index.invariant.0)),
       ),
 )
 
@@ -186,7 +187,7 @@ one_of-part-requires t c = (
       let room = one_of-last pattern_in c.args.parts.now (length c.args.parts.now - 1) c.index-parts-last.result there c.index-parts-last.is in
       let left = in_order-left pattern_in c.args.parts.now (length c.args.parts.now - 1) c.index-parts-last.result there c.index-parts-last.is in (
         omega (arith, c.requires.room, room),
-        (omega (arith, c.requires.left, left, one_of_groups (map pattern_in c.args.parts.now)), c.requires.groups),
+        (omega (arith, c.requires.unnumbered, left, one_of_groups (map pattern_in c.args.parts.now)), c.requires.groups),
       ),
 )
 
@@ -206,7 +207,7 @@ one_of-part-requires-in-loop-index t c = (
         (
           omega (
             arith,
-            c.requires.left,
+            c.requires.unnumbered,
             c.loop-index.invariant.0,
             left,
             one_of_groups (map pattern_in c.args.parts.now),
@@ -235,7 +236,7 @@ copies-part-requires t c = (
       c.loop-done.invariant.2,
       copies-room c.loop-done.done c.args.count (pattern_in c.args.sub.now) c.loop-done-test.true,
     ),
-    (c.requires.left, c.requires.groups),
+    (c.requires.unnumbered, c.requires.groups),
   ),
 )
 
@@ -249,7 +250,7 @@ up_to-part-requires t c = (
       c.loop-done.invariant.2,
       up_to-room c.args.is_greedy c.loop-done.done c.args.count (pattern_in c.args.sub.now) c.loop-done-test.true,
     ),
-    (c.requires.left, c.requires.groups),
+    (c.requires.unnumbered, c.requires.groups),
   ),
 )
 
@@ -266,20 +267,20 @@ pub limited-up_to-requires : goal.limited-up_to-requires
 limited-up_to-requires t c =
     let size = limited-size c.args.times.min c.args.max c.args.times.is_greedy (pattern_in c.args.sub.now) in
     let same = ap (λ (n : ℕ). size_of (up_to c.args.times.is_greedy n (pattern_in c.args.sub.now))) c.saturating_sub-more.ensures in
-    (grind (arith, common_steps), (omega (arith, c.requires.room, size, same), (c.requires.left, c.requires.groups)))
+    (grind (arith, common_steps), (omega (arith, c.requires.room, size, same), (c.requires.unnumbered, c.requires.groups)))
 
 pub limited-up_to-requires-2 : goal.limited-up_to-requires-2
 limited-up_to-requires-2 t c =
     let size = limited-size c.args.times.min c.args.max c.args.times.is_greedy (pattern_in c.args.sub.now) in
     let same = ap (λ (n : ℕ). size_of (up_to c.args.times.is_greedy n (pattern_in c.args.sub.now))) c.saturating_sub-more.ensures in
-    (grind (arith, common_steps), (omega (arith, c.requires.room, size, same), (c.requires.left, c.requires.groups)))
+    (grind (arith, common_steps), (omega (arith, c.requires.room, size, same), (c.requires.unnumbered, c.requires.groups)))
 
 pub limited-copies-requires : goal.limited-copies-requires
 limited-copies-requires t c =
     let size = limited-size c.args.times.min c.args.max c.args.times.is_greedy (pattern_in c.args.sub.now) in
     let same = ap (λ (n : ℕ). size_of (up_to c.args.times.is_greedy n (pattern_in c.args.sub.now))) c.saturating_sub-more.ensures in (
       grind (arith, common_steps),
-      (omega (arith, c.requires.room, size, same, c.in_ok-rest.ensures.2), (c.requires.left, c.requires.groups)),
+      (omega (arith, c.requires.room, size, same, c.in_ok-rest.ensures.2), (c.requires.unnumbered, c.requires.groups)),
     )
 
 pub unlimited-copies-requires : goal.unlimited-copies-requires
@@ -287,7 +288,7 @@ unlimited-copies-requires t c =
     let more : 1 < c.args.times.min = more_than_one c.args.times.min c.if-times-eq0.false c.if-times-eq1.false in
     let size = unlimited-size (c.args.times.min - 1) c.args.times.min c.args.times.is_greedy (pattern_in c.args.sub.now) (omega (arith, more)) in (
       grind (arith, common_steps),
-      (omega (arith, c.requires.room, size, c.in_ok-last.ensures.first.2), (c.requires.left, c.requires.groups)),
+      (omega (arith, c.requires.room, size, c.in_ok-last.ensures.first.2), (c.requires.unnumbered, c.requires.groups)),
     )
 
 pub limited-returns-then-more-eq0 : goal.limited-returns-then-more-eq0

@@ -5,9 +5,9 @@ use Rattle.rsc_engine.specs.RowsLayout.{machine}
 use Rattle.rsc_engine.specs.ForwardLayout.{StandsInEach, last_with, found_in}
 use Rattle.rsc_engine.specs.PassTableLayout.{IsPassTo}
 use Rattle.rsc_engine.proofs.ForwardLayoutLemmas.{each-forward, each-on}
-use Rattle.rsc_engine.proofs.PassTableLayoutLemmas.{unmarked-none}
+use Rattle.rsc_engine.proofs.PassTableLayoutLemmas.{no_match-none}
 use Rattle.rsc_engine.proofs.dfa.pass_table.PassTable.follow.Goals as goal
-use Rattle.rsc_engine.proofs.dfa.pass_table.PassTable.follow.Goals.{in-To, in-Marked+else-earliest, else-earliest-via-then-earliest+else-has_found, else-earliest-via-else-earliest}
+use Rattle.rsc_engine.proofs.dfa.pass_table.PassTable.follow.Goals.{in-To, in-WithMatch+else-is_final+else-earliest, else-earliest-via-then-earliest+else-has_found, else-earliest-via-else-earliest}
 
 pub bytes-preserved : goal.bytes-preserved
 bytes-preserved g c =
@@ -15,8 +15,9 @@ bytes-preserved g c =
     let classes = c.args.plan.now.classes in
     let rows = c.args.self.now.rows.items in
     let after : byte_after c.args.input.now.haystack c.bytes.position ≡ Some c.byte_at.result =
-    rw c.haystack-haystack.ensures.bytes at c.byte_at.ensures.after in
-    let on : (next : ℕ) → IsPassTo (machine g.W.WordClass.word_chars c.args.plan.now.program.now) classes rows rows c.bytes.here (Some c.byte_at.result) next
+    rw c.haystack-haystack.ensures.value at c.byte_at.ensures.after in
+    let on : (next : ℕ)
+    → IsPassTo (machine g.W.WordClass.word_chars c.args.plan.now.program.now) classes rows rows c.bytes.here (Some c.byte_at.result) next
     → StandsInEach e classes rows next (c.bytes.position + 1) (last_with (found_in (slice_get rows next)) c.bytes.position c.bytes.found) =
     λ next to. each-on e classes rows rows c.bytes.here c.bytes.position next c.bytes.found
     (each-forward e classes c.args.plan.now.width c.args.plan.now.unicode
@@ -26,13 +27,13 @@ bytes-preserved g c =
     c.bytes.invariant.on in
     elim c.match-lead_of.branch [
       | in-To w ↦
-          let none : found_in (slice_get rows w.in-To.next) ≡ None = unmarked-none (slice_get rows w.in-To.next) w.in-To.ensures.plain in
+          let none : found_in (slice_get rows w.in-To.next) ≡ None = no_match-none (slice_get rows w.in-To.next) w.in-To.ensures.plain in
           record {
             on = rw (w.here-is, w.found-is) (rw none at (on w.in-To.next w.in-To.ensures.row));
             none = λ is. w.found-is ∙ c.bytes.invariant.none is;
           }
-      | in-Marked+else-earliest w ↦ record {
-        on = rw (w.here-is, w.found-is, w.found_with-found.ensures) (on w.in-Marked.next w.in-Marked.ensures.row);
+      | in-WithMatch+else-is_final+else-earliest w ↦ record {
+        on = rw (w.here-is, w.found-is, w.found_with-found.ensures) (on w.in-WithMatch.next w.in-WithMatch.ensures.row);
         none = λ is. w.found-is ∙ w.found_with-found.ensures ∙ (elim w.else-earliest.branch [
           | else-earliest-via-then-earliest+else-has_found v ↦
               ap (λ (o : Option ℕ). last_with o c.bytes.position c.bytes.found) (v.has_found.ensures.none v.if-has_found.false) ∙ c.bytes.invariant.none is

@@ -8,7 +8,7 @@ use Rattle.rsc_engine.specs.PassTableLayout.{IsPassTo}
 use Rattle.rsc_engine.specs.BackwardLayout.{begins_in, least_with}
 use Rattle.rsc_engine.proofs.BackwardLayoutLemmas.{goes-backward, before-after}
 use Rattle.rsc_engine.proofs.LogLayoutLemmas.{back-more}
-use Rattle.rsc_engine.proofs.PassTableLayoutLemmas.{some_same, unmarked-begins}
+use Rattle.rsc_engine.proofs.PassTableLayoutLemmas.{some_same, no_match-begins}
 use Rattle.rsc_engine.proofs.dfa.pass_table.PassTable.follow_back.Goals as goal
 
 pub bytes-preserved-in-Continue-1 : goal.bytes-preserved-in-Continue-1
@@ -18,7 +18,7 @@ bytes-preserved-in-Continue-1 g c =
     let high : c.bytes.position ≤ c.args.input.now.span.end = omega (arith, c.bytes.invariant.further, c.requires.end) in
     let before : byte_before c.args.input.now.haystack c.bytes.position ≡ Some c.byte_at.result =
     before-after c.args.input.now.haystack c.bytes.position (omega (arith, c.bytes-test.true))
-    ∙ rw c.haystack-haystack.ensures.bytes at c.byte_at.ensures.after in
+    ∙ rw c.haystack-haystack.ensures.value at c.byte_at.ensures.after in
     let led : IsPassTo (machine g.W.WordClass.word_chars c.args.plan.now.program.now) c.args.plan.now.classes rows rows c.bytes.here
     (byte_before c.args.input.now.haystack c.bytes.position) c.in-To.next =
     subst (λ (u : Option ℕ). IsPassTo (machine g.W.WordClass.word_chars c.args.plan.now.program.now) c.args.plan.now.classes rows rows c.bytes.here u
@@ -28,7 +28,7 @@ bytes-preserved-in-Continue-1 g c =
     let back : led.leads.is_row.to.backward ≡ true =
     led.leads.is_row.same_pass ∙ subst (λ (r : PassRow). r.backward ≡ true) (sym from) stands.backward in
     let none : begins_in (slice_get rows c.in-To.next) ≡ false =
-    unmarked-begins (slice_get rows c.in-To.next) led.leads.is_row.to led.leads.is_row.there back c.in-To.ensures.plain in
+    no_match-begins (slice_get rows c.in-To.next) led.leads.is_row.to led.leads.is_row.there back c.in-To.ensures.plain in
     let least : c.bytes.found ≡ least_with (begins_in (slice_get rows c.in-To.next)) c.bytes.position c.bytes.found =
     ap (λ (b : Bool). least_with b c.bytes.position c.bytes.found) (sym none) in
     record {
@@ -49,19 +49,19 @@ bytes-preserved g c =
     let high : c.bytes.position ≤ c.args.input.now.span.end = omega (arith, c.bytes.invariant.further, c.requires.end) in
     let before : byte_before c.args.input.now.haystack c.bytes.position ≡ Some c.byte_at.result =
     before-after c.args.input.now.haystack c.bytes.position (omega (arith, c.bytes-test.true))
-    ∙ rw c.haystack-haystack.ensures.bytes at c.byte_at.ensures.after in
+    ∙ rw c.haystack-haystack.ensures.value at c.byte_at.ensures.after in
     let led : IsPassTo (machine g.W.WordClass.word_chars c.args.plan.now.program.now) c.args.plan.now.classes rows rows c.bytes.here
-    (byte_before c.args.input.now.haystack c.bytes.position) c.in-Marked.next =
+    (byte_before c.args.input.now.haystack c.bytes.position) c.in-WithMatch.next =
     subst (λ (u : Option ℕ). IsPassTo (machine g.W.WordClass.word_chars c.args.plan.now.program.now) c.args.plan.now.classes rows rows c.bytes.here u
-    c.in-Marked.next) (sym before) c.in-Marked.ensures.row in
+    c.in-WithMatch.next) (sym before) c.in-WithMatch.ensures.row in
     record {
-      on = back-more e c.args.plan.now.classes rows c.bytes.here c.in-Marked.next c.bytes.position c.bytes.found c.least_with-found.result c.bytes.log.items
-          c.add_to_log-in-Marked.new.log.items (omega (arith, c.bytes-test.true))
-          (c.least_with-found.ensures) c.in_ok-add_to_log-in-Marked.ensures.adds
+      on = back-more e c.args.plan.now.classes rows c.bytes.here c.in-WithMatch.next c.bytes.position c.bytes.found c.least_with-found.result c.bytes.log.items
+          c.add_to_log-in-WithMatch.new.log.items (omega (arith, c.bytes-test.true))
+          (c.least_with-found.ensures) c.in_ok-add_to_log-in-WithMatch.ensures.adds
           (goes-backward e c.args.plan.now.classes c.args.plan.now.width c.args.plan.now.unicode
           record { laws = c.steps_are_lawful.ensures; plan = c.requires.plan; within = c.haystack-haystack.ensures.within }
-          rows rows c.bytes.here c.bytes.position c.in-Marked.next c.bytes.invariant.start high led) c.bytes.invariant.on;
-      row = slice_get_within rows c.in-Marked.next led.leads.is_row.to led.leads.is_row.there;
+          rows rows c.bytes.here c.bytes.position c.in-WithMatch.next c.bytes.invariant.start high led) c.bytes.invariant.on;
+      row = slice_get_within rows c.in-WithMatch.next led.leads.is_row.to led.leads.is_row.there;
       further = omega (arith, c.bytes.invariant.further);
       start = omega (arith, c.bytes-test.true, c.start-start.ensures.value);
     }

@@ -12,7 +12,7 @@ use Rattle.rsc_engine.proofs.dfa.pass_table.PassTable.next_row.Goals as goal
 
 pub returns-in-Some-clause-goes : goal.returns-in-Some-clause-goes
 returns-in-Some-clause-goes g c =
-    let unit : c.after_of-unit.result ≡ byte_after c.args.input.now.haystack c.args.at = rw c.haystack.ensures.bytes at c.after_of-unit.ensures.value in
+    let unit : c.after_of-unit.result ≡ byte_after c.args.input.now.haystack c.args.at = rw c.haystack.ensures.value at c.after_of-unit.ensures.value in
     each-forward (search_in g.W.WordClass.word_chars c.args.plan.now.program.now c.args.input.now) c.args.plan.now.classes
     c.args.plan.now.width c.args.plan.now.unicode
     record { laws = c.steps_are_lawful.ensures; plan = c.requires.plan; within = c.haystack.ensures.within }
@@ -20,7 +20,7 @@ returns-in-Some-clause-goes g c =
 
 pub returns-in-None-clause-goes : goal.returns-in-None-clause-goes
 returns-in-None-clause-goes g c =
-    let unit : c.after_of-unit.result ≡ byte_after c.args.input.now.haystack c.args.at = rw c.haystack.ensures.bytes at c.after_of-unit.ensures.value in
+    let unit : c.after_of-unit.result ≡ byte_after c.args.input.now.haystack c.args.at = rw c.haystack.ensures.value at c.after_of-unit.ensures.value in
     let e = search_in g.W.WordClass.word_chars c.args.plan.now.program.now c.args.input.now in
     let old = c.args.self.now.rows.items in
     let new = c.make.new.self.rows.items in
@@ -49,4 +49,4 @@ returns-then-is_beyond-clause-goes g c =
     c.args.input.now.haystack c.args.at)
     (GoesInEach e c.args.plan.now.classes old new c.args.row c.args.at)
     (λ next made. each-beyond e c.args.plan.now.classes c.steps_are_lawful.ensures old new c.args.row c.args.at next c.haystack.ensures.within made)
-    (rw c.haystack-then-is_beyond.ensures.bytes at c.step_beyond.ensures.step)
+    (rw c.haystack-then-is_beyond.ensures.value at c.step_beyond.ensures.step)

@@ -16,7 +16,7 @@ returns-in-Some-clause-row g c = led-there _ _ _ _ _ _ _ c.in-Some.ensures
 
 pub returns-in-Some-clause-goes : goal.returns-in-Some-clause-goes
 returns-in-Some-clause-goes g c =
-    let unit : c.before_of-unit.result ≡ byte_before c.args.input.now.haystack c.args.at = rw c.haystack.ensures.bytes at c.before_of-unit.ensures.value in
+    let unit : c.before_of-unit.result ≡ byte_before c.args.input.now.haystack c.args.at = rw c.haystack.ensures.value at c.before_of-unit.ensures.value in
     goes-backward (search_in g.W.WordClass.word_chars c.args.plan.now.program.now c.args.input.now) c.args.plan.now.classes
     c.args.plan.now.width c.args.plan.now.unicode
     record { laws = c.steps_are_lawful.ensures; plan = c.requires.plan; within = c.haystack.ensures.within }
@@ -31,7 +31,7 @@ returns-in-None-clause-row g c =
 
 pub returns-in-None-clause-goes : goal.returns-in-None-clause-goes
 returns-in-None-clause-goes g c =
-    let unit : c.before_of-unit.result ≡ byte_before c.args.input.now.haystack c.args.at = rw c.haystack.ensures.bytes at c.before_of-unit.ensures.value in
+    let unit : c.before_of-unit.result ≡ byte_before c.args.input.now.haystack c.args.at = rw c.haystack.ensures.value at c.before_of-unit.ensures.value in
     let e = search_in g.W.WordClass.word_chars c.args.plan.now.program.now c.args.input.now in
     let old = c.args.self.now.rows.items in
     let new = c.make.new.self.rows.items in
@@ -62,4 +62,4 @@ returns-then-is_beyond-clause-goes g c =
     (λ next made. goes-back-beyond e c.args.plan.now.classes c.args.plan.now.width c.args.plan.now.unicode
     record { laws = c.steps_are_lawful.ensures; plan = c.requires.plan; within = c.haystack.ensures.within }
     old new c.args.row c.args.at next c.requires.start c.requires.end made)
-    (rw c.haystack-then-is_beyond.ensures.bytes at c.step_beyond.ensures.step)
+    (rw c.haystack-then-is_beyond.ensures.value at c.step_beyond.ensures.step)

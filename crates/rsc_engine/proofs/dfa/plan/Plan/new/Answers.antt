@@ -1,6 +1,6 @@
 use Rattle.std.proofs.Common.{◌≡◌, ◌<◌, ◌∙◌, length, subst, arith, ℕ}
 use Rattle.rsc_nfa.specs.Classes.{has_unicode}
-use Rattle.rsc_nfa.specs.Faults.{AreFaultless}
+use Rattle.rsc_nfa.specs.StateFaults.{AreFaultless}
 use Rattle.rsc_look.specs.Keeping.{AgreesWithAscii}
 use Rattle.rsc_engine.proofs.LawfulLayoutLemmas.{parted}
 use Rattle.rsc_engine.proofs.dfa.plan.Plan.new.Goals as goal
