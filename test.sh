@@ -22,7 +22,7 @@ step() {
 case ${1:-} in
   '' | all)
     step "sources and documents: layers, lengths of lines, quotations, unused lemmas, the texts of wrong bodies"
-    python3 -m doctest gate/heads.py gate/edits.py gate/wrong-bodies.py gate/calling.py gate/defined.py gate/settled.py gate/trusted.py gate/typed.py
+    python3 -m doctest gate/heads.py gate/edits.py gate/wrong-bodies.py gate/calling.py gate/defined.py gate/frozen.py gate/settled.py gate/trusted.py gate/typed.py
     gate/pages.py
     gate/unused-lemmas.py
     gate/wrong-bodies.py --texts

@@ -46,7 +46,7 @@ def sources(crate):
 @functools.cache
 def cited():
     """Returns, for each crate, each definition that a public function's clauses cite, or what a trait's methods promise, or that is what a contract sees of a
-    value, with those functions or impls."""
+    value, with those functions or impls; and each of which a field of such a record speaks."""
     found = collections.defaultdict(lambda: collections.defaultdict(set))
     for crate in LIBRARIES:
         for path, text in sources(crate):
@@ -67,7 +67,28 @@ def cited():
                 for name in set(re.findall(r"[\w-]+", " ".join(kept))) & set(imported):
                     of, module = imported[name]
                     found[of][f"{module}.{name}"].add(f"the impl of {impl} in {crate}")
+    add_parts(found)
     return found
+
+
+def add_parts(found):
+    """Adds what the fields of cited records, and the constructors of cited data types, speak of: who takes a field of a record goes by it too."""
+    todo = [(of, name) for of, names in found.items() for name in names]
+    while todo:
+        of, cited_name = todo.pop()
+        module, _, name = cited_name.rpartition(".")
+        text = (ROOT / "crates" / of / "specs" / f"{module.replace('.', '/')}.antt").read_text(encoding="utf-8")
+        body = re.search(rf"^pub (?:record|data) {re.escape(name)} .*\n(?:  .*\n)*", text, flags=re.M)
+        if body:
+            own = {it: (of, module) for it in re.findall(r"^(?:abbrev |unfoldable )*pub (?:record |data )?(\S+)", text, flags=re.M)}
+            for crate, other, names in re.findall(r"^use Rattle\.(rsc_\w+)\.specs\.([\w.]+)\.\{([^}]*)\}", text, flags=re.M):
+                if not other.startswith("declared"):
+                    own.update({it.strip(): (crate, other) for it in names.split(",")})
+            for part in (set(re.findall(r"[\w-]+", body[0])) & set(own)) - {name}:
+                its_crate, its_module = own[part]
+                if f"{its_module}.{part}" not in found[its_crate]:
+                    todo.append((its_crate, f"{its_module}.{part}"))
+                found[its_crate][f"{its_module}.{part}"].add(f"a field of {cited_name}")
 
 
 MARK = re.compile(r"<!-- callers: (.*) -->\n")

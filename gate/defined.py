@@ -64,7 +64,7 @@ def names_of_specs(crate, cited):
     """Returns the definitions of specs/, each with the comment above it, or how it is defined: those that are cited, those of which they are made, and lemmas with
     what serves them. Private ones are left out."""
     tables = {
-        "Contracts cite these. From 0.1.0 on they stay, with the fields of their records:": [],
+        "Contracts cite these, or fields of these. From 0.1.0 on they stay, with the fields of their records and the constructors of their data types:": [],
         "Of these they are made. These may change:": [],
         "These serve proofs, and need no trust. They may change, too:": [],
     }

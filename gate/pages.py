@@ -35,6 +35,7 @@ import sys
 from calling import ROOT, calls, cited, is_exported, page, sources
 from defined import definitions_page, with_lacked_calls
 from edits import edits_in
+from frozen import frozen_faults
 from heads import above, head, source_of
 from settled import clause_faults, name_faults, twice_named
 from trusted import believed, engine_statement, reached, statement, trusted
@@ -366,7 +367,7 @@ def main():
         return 1
     bodies = ROOT / "docs/WRONG_BODIES.md"
     made[bodies], missing = named_bodies(bodies.read_text(encoding="utf-8"))
-    faults_of = [number_faults(made), *(it() for it in (source_faults, form_faults, visibility_faults, path_faults, unknown_names, link_faults, definition_faults, clause_faults, twice_named, name_faults))]
+    faults_of = [number_faults(made), *(it() for it in (source_faults, form_faults, visibility_faults, path_faults, unknown_names, link_faults, definition_faults, clause_faults, twice_named, name_faults, frozen_faults))]
     for faults in [*itertools.chain.from_iterable(faults_of), [f"docs/WRONG_BODIES.md names {it}, which isn't there" for it in missing]]:
         count += 1
         failures += faults

@@ -11,9 +11,10 @@ from typed import LIBRARIES
 SETTLED = (
     (r"IfErr result ", ("refused", "fails")),
     (r"OnErr result \((\w+)\.new ≡ \1\.old\)|¬ \(IsTrue result\) → (\w+)\.new ≡ \2\.old|(\w+)\.new ≡ \3\.old", ("kept",)),
-    (r"result ≡ (?!\S+ →)|(?:self|set)\.new ≡ sets\.", ("value", "new")),
+    (r"result ≡ (?!\S+ →)|(?:self|set)\.new ≡ sets\.", ("value", "added")),
     (r"\((\w+) : \w+\) → (?:\w+ < 256 → )?sets\.contains (?:result|self\.new|set\.new) \1 ≡ (?!true →)", ("members",)),
     (r"IsIndex (?:result|self\.now)$", ("within",)),
+    (r"LastClassIsGreatest result$", ("bounded",)),
     (r"IsTrue result ↔", ("value", "accepted")),
     (r"(?:length )?captures\.new\.(?:groups|pattern|offsets) ≡ (?:length )?captures\.old\.", ("kept_groups", "kept_pattern", "kept_slots")),
     (r"IfOk result \(λ found\. IfNone found \(IsCleared ", ("cleared",)),
@@ -36,7 +37,7 @@ def unsettled(signature):
     """Yields the names of clauses that say what has a settled name under another one, with that name.
 
     >>> [*unsettled("fn one()\\n    ensures it { result ≡ 1 }\\n    ensures most { result < 2 }"), *unsettled("fn one()\\n    ensures { result ≡ 1 }")]
-    [('it', 'value or new')]
+    [('it', 'value or added')]
     """
     clauses = clauses_of(signature)
     for name, said in clauses:

@@ -319,7 +319,7 @@ def try_all(kinds, wanted, names, known, tested, told):
         first, others = refused_tasks(wanted, names, known, room) if "wrong-bodies" in kinds else ({}, {})
         among = tested_tasks(tested, room) if "tested-bodies" in kinds else {}
         beside = [it.partition("=")[2] for it in sys.argv if it.startswith("--beside=")]
-        for (kind, crate, *_), results in in_lanes(first | among | others, *map(ready_beside, beside)):
+        for (kind, crate, *_), results in in_lanes(first | others | among, *map(ready_beside, beside)):
             for is_well, line in results if kind in kinds else ():
                 print(line, flush=True)
                 counts[kind][not is_well] += 1

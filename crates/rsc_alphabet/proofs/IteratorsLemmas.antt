@@ -1,7 +1,7 @@
 -- The steps of the iterators of a class map, and what they give.
 use Rattle.std.proofs.Common.{◌≡◌, ℕ, ◌+◌, ◌*◌, ◌-◌, ◌<◌, ◌≤◌, Bool, true, false, not, List, [], ◌∷◌, ◌++◌, map, filter, refl, sym, ap, ap₂, ◌∙◌, arith, nat_eq, slice_index, Some, None, ◌^◌, length, append-nil, nat_le, ⊎_elim, set, below_more, get_or-set_same, get_or-set_other, zero, suc, ◌||◌, ◌&&◌, slice_get, length-append, pow_mono, nat_cmp, get_or, nat_lt, IsSome, All, ◌⊎◌, inl, inr, ◌==◌, Contains}
 use Rattle.std.proofs.lemmas.Bool.{eq-eqb, ne_eqb, cases_lt, le-leb, lt-leb, eqb-true}
-use Rattle.rsc_alphabet.proofs.Prelude.{from_to, bytes, from_to_none, from_to_first, length-from_to, get_or-from_to, filter_same, filter_first, filter_none, filter_parts, Symbol, byte, end_of_input, byte_of, end_of, symbols, elements_of, representing, end_if_unbounded, representatives_of, has_bit, Numbers, members, symbols_left, elements_left, class_of, number_of, class_at, class_of_none, class_of_more, class_of-between}
+use Rattle.rsc_alphabet.proofs.Prelude.{from_to, bytes, from_to_none, from_to_first, length-from_to, get_or-from_to, filter_same, filter_first, filter_none, filter_parts, Symbol, byte, end_of_input, byte_of, end_symbol, symbols, elements_of, representing, end_if_unbounded, representatives_of, has_bit, Numbers, members, symbols_left, elements_left, class_of, number_of, class_at, class_of_none, class_of_more, class_of-between}
 use Rattle.std.proofs.lemmas.Option.{slice_get-get_or}
 use Rattle.std.specs.declared.ops.Bound.{Bound}
 use Rattle.std.specs.Range.Bound.{start_index, end_index}
@@ -34,7 +34,7 @@ symbols_left_more classes next l =
 
 -- after the last class comes the end
 pub symbols_left_end : (classes : List ℕ) (next : ℕ) → next ≡ slice_index classes 255 + 1
-    → symbols_left classes next ≡ end_of classes ∷ symbols_left classes (next + 1)
+    → symbols_left classes next ≡ end_symbol classes ∷ symbols_left classes (next + 1)
 symbols_left_end classes next e =
     let none = from_to_none (next + 1) (class_count classes) (omega arith) in
     rw (
@@ -59,7 +59,7 @@ slice_get_symbols classes c l =
     let n : ℕ = slice_index classes 255 + 1 in
     let low : c < length (from_to 0 n) = omega (arith, length-from_to 0 n) in
     slice_get-get_or (symbols classes) c (byte 0) (omega (arith, length_symbols classes))
-    ∙ ap Some (get_or_append_left (map (λ k. byte k) (from_to 0 n)) (end_of classes ∷ []) (byte 0) c (rw length-map low)
+    ∙ ap Some (get_or_append_left (map (λ k. byte k) (from_to 0 n)) (end_symbol classes ∷ []) (byte 0) c (rw length-map low)
     ∙ get_or-map (λ k. byte k) (from_to 0 n) c 0 (byte 0) low ∙ ap byte (get_or-from_to 0 n c 0 (omega arith) ∙ omega arith))
 
 -- ---- the elements of a class
@@ -230,9 +230,9 @@ All-one P u is = All-cons P u [] is (All-nil P)
 pub symbols_within : (classes : List ℕ) → All (λ u. number_of u < slice_index classes 255 + 2) (symbols classes)
 symbols_within classes =
     let end : ℕ = slice_index classes 255 + 1 in
-    All-bytes (λ u. number_of u < slice_index classes 255 + 2) (from_to 0 end) (end_of classes ∷ [])
+    All-bytes (λ u. number_of u < slice_index classes 255 + 2) (from_to 0 end) (end_symbol classes ∷ [])
     (All-weaker (λ c. c < end) (λ c. c < slice_index classes 255 + 2) (λ c l. omega (arith, l)) (from_to 0 end) (All-from_to 0 end))
-    (All-one (λ u. number_of u < slice_index classes 255 + 2) (end_of classes) (omega arith))
+    (All-one (λ u. number_of u < slice_index classes 255 + 2) (end_symbol classes) (omega arith))
 
 -- the elements of a class have that class
 pub elements_have_class : (classes : List ℕ) (unit : Symbol) (list : List Symbol) → list ≡ elements_of classes unit → IsSome (byte_of unit)
@@ -256,10 +256,10 @@ representatives_within classes from to low rises =
     (λ b l. let r = rises b (omega (arith, l, low)) in omega (arith, r)) (from_to first end) (All-from_to first end)))
     (ends P (omega arith) to)
   where
-    ends : (P : Symbol → Type 0) → P (end_of classes) → (bound : Bound ℕ) → All P (end_if_unbounded classes bound)
+    ends : (P : Symbol → Type 0) → P (end_symbol classes) → (bound : Bound ℕ) → All P (end_if_unbounded classes bound)
     ends P is (Included n) = All-nil P
     ends P is (Excluded n) = All-nil P
-    ends P is Unbounded = All-one P (end_of classes) is
+    ends P is Unbounded = All-one P (end_symbol classes) is
 
 -- ---- the length of a row
 
@@ -313,34 +313,34 @@ class_represented classes b l =
       r.0,
       (
         r.1.0,
-        Contains-append_left (map (λ b. byte b) (representing classes 0 256)) (end_of classes ∷ []) (byte r.0)
+        Contains-append_left (map (λ b. byte b) (representing classes 0 256)) (end_symbol classes ∷ []) (byte r.0)
             (Contains-map (λ b. byte b) (representing classes 0 256) r.0 r.1.1),
         r.1.2,
       ),
     )
 
 -- the end is the last representative
-pub end_given : (classes : List ℕ) → Contains (representatives_of classes Unbounded Unbounded) (end_of classes)
-end_given classes = Contains-push (map (λ b. byte b) (representing classes 0 256)) (end_of classes)
+pub end_given : (classes : List ℕ) → Contains (representatives_of classes Unbounded Unbounded) (end_symbol classes)
+end_given classes = Contains-push (map (λ b. byte b) (representing classes 0 256)) (end_symbol classes)
 
 -- and no others are
 pub only_bytes_and_the_end : (classes : List ℕ) (u : Symbol) → Contains (representatives_of classes Unbounded Unbounded) u
-    → ((b : ℕ) × ((b < 256) × (u ≡ byte b))) ⊎ (u ≡ end_of classes)
+    → ((b : ℕ) × ((b < 256) × (u ≡ byte b))) ⊎ (u ≡ end_symbol classes)
 only_bytes_and_the_end classes u c =
-    let P : Symbol → Type 0 = λ s. ((b : ℕ) × ((b < 256) × (s ≡ byte b))) ⊎ (s ≡ end_of classes) in
+    let P : Symbol → Type 0 = λ s. ((b : ℕ) × ((b < 256) × (s ≡ byte b))) ⊎ (s ≡ end_symbol classes) in
     let xs = representing classes 0 256 in
     let all : All P (representatives_of classes Unbounded Unbounded) =
-    All-bytes P xs (end_of classes ∷ []) (All-filter _ (λ b. P (byte b)) (from_to 0 256)
+    All-bytes P xs (end_symbol classes ∷ []) (All-filter _ (λ b. P (byte b)) (from_to 0 256)
     (All-weaker (λ b. b < 256) (λ b. P (byte b)) (λ b l. inl (b, (l, refl))) (from_to 0 256) (All-from_to 0 256)))
-    (All-one P (end_of classes) (inr refl))
+    (All-one P (end_symbol classes) (inr refl))
     in All-contains P (representatives_of classes Unbounded Unbounded) u all c
 
 -- the end of the input is after all classes of bytes
-pub end_comes_last : (classes : List ℕ) → slice_get (symbols classes) (slice_index classes 255 + 1) ≡ Some (end_of classes)
+pub end_comes_last : (classes : List ℕ) → slice_get (symbols classes) (slice_index classes 255 + 1) ≡ Some (end_symbol classes)
 end_comes_last classes =
     let n : ℕ = slice_index classes 255 + 1 in
-    slice_get-get_or (symbols classes) n (end_of classes) (omega (arith, length_symbols classes))
-    ∙ ap Some (get_or_push (map (λ c. byte c) (from_to 0 n)) (end_of classes) (end_of classes) n (rw length-map (omega (arith, length-from_to 0 n))))
+    slice_get-get_or (symbols classes) n (end_symbol classes) (omega (arith, length_symbols classes))
+    ∙ ap Some (get_or_push (map (λ c. byte c) (from_to 0 n)) (end_symbol classes) (end_symbol classes) n (rw length-map (omega (arith, length-from_to 0 n))))
 
 -- ---- the entries of a table with a column for each class
 

@@ -4,7 +4,7 @@ use Rattle.std.specs.Cmp.{nat_cmp_total}
 use Rattle.std.specs.FinSet as sets
 use Rattle.std.specs.FinSet.{contains-empty, same_set, nat_cmp-IsAntisymmetric}
 use Rattle.std.proofs.lemmas.Bool.Decides.{nat_tests}
-use Rattle.rsc_alphabet.proofs.Prelude.{Numbers, has_bit, masked, contains-masked, is_masked-low, is_masked-high, LastClassIsGreatest, class_of, class_map, boundaries_of_range, class_map_is, class_of_more, class_of_none, class_of_same, contains-boundaries_of_range, contains-inserted, contains-joined, contains-removed, begins_run, ends_run, runs, boundaries_of_ranges, is_boundary_of_set, Together, holds, treats_alike, are_alike, has_boundary, same_bools, same_class-together}
+use Rattle.rsc_alphabet.proofs.Prelude.{Numbers, has_bit, masked, contains-masked, is_masked-low, is_masked-high, LastClassIsGreatest, class_of, class_map, boundaries_of_range, class_map_is, class_of_more, class_of_none, class_of_same, contains-boundaries_of_range, contains-inserted, contains-joined, contains-removed, begins_run, ends_run, runs, boundaries_of_ranges, is_boundary_of_set, AreTogether, holds, treats_alike, are_alike, has_boundary, same_bools, same_class-together}
 use Rattle.std.specs.List.{list_any}
 use Rattle.std.proofs.lemmas.Bool.{cases_lt, cases_Bool, cases_eq, eq-eqb}
 use Rattle.rsc_alphabet.proofs.ByteSetsLemmas.{for_runs_from, runs_from, parts_no_run, not_after, Contains-first, Contains-later}
@@ -190,7 +190,7 @@ boundary_is r k l = (
 )
 
 moves : (p : ℕ → Bool) (r : ℕ × ℕ) (b c : ℕ) → c < 256
-    → ((k : ℕ) → k < 255 → sets.contains (boundaries_of_range r) k ≡ true → p k ≡ true) → Together p b c
+    → ((k : ℕ) → k < 255 → sets.contains (boundaries_of_range r) k ≡ true → p k ≡ true) → AreTogether p b c
     → (r.0 ≤ b) × (b ≤ r.1) → b < 256 → (r.0 ≤ c) × (c ≤ r.1)
 moves p r b c small has together within here = (
   ⊎_elim
@@ -210,17 +210,17 @@ to_within r b t = (grind (arith, nat_tests), grind (arith, nat_tests))
 from_within : (r : ℕ × ℕ) (b : ℕ) → (r.0 ≤ b) × (b ≤ r.1) → holds r b ≡ true
 from_within r b w = grind (arith, nat_tests)
 
-Together-sym : (p : ℕ → Bool) (b c : ℕ) → Together p b c → Together p c b
-Together-sym p b c t k l u = t k (omega arith) (omega arith)
+AreTogether-sym : (p : ℕ → Bool) (b c : ℕ) → AreTogether p b c → AreTogether p c b
+AreTogether-sym p b c t k l u = t k (omega arith) (omega arith)
 
 -- bytes that are together where a partition has these are both in the range or both outside
 pub boundaries_together : (p : ℕ → Bool) (r : ℕ × ℕ) (b c : ℕ) → b < 256 → c < 256
     → ((k : ℕ) → k < 255 → sets.contains (boundaries_of_range r) k ≡ true → p k ≡ true)
-    → Together p b c → holds r b ≡ holds r c
+    → AreTogether p b c → holds r b ≡ holds r c
 boundaries_together p r b c l u has t =
     same_bools (holds r b) (holds r c)
     (λ m. from_within r c (moves p r b c u has t (to_within r b m) l))
-    (λ m. from_within r b (moves p r c b l has (Together-sym p b c t) (to_within r c m) u))
+    (λ m. from_within r b (moves p r c b l has (AreTogether-sym p b c t) (to_within r c m) u))
 
 -- where a list of ranges has a boundary between two neighbours, one of its ranges has a boundary
 has_boundary_of_one : (p : ℕ → Bool) (k : ℕ) → k < 255 → (ranges : List (ℕ × ℕ)) → All (λ r. r.0 ≤ r.1) ranges →
@@ -239,7 +239,7 @@ has_boundary_of_one p k l (r ∷ rs) ordered has apart =
 -- two bytes that are together for a partition with the boundaries of each range are alike for the ranges
 pub together_alike : (p : ℕ → Bool) (ranges : List (ℕ × ℕ)) → All (λ r. r.0 ≤ r.1) ranges →
     ((r : ℕ × ℕ) → Contains ranges r → (k : ℕ) → k < 255 → sets.contains (boundaries_of_range r) k ≡ true → p k ≡ true) →
-    (b c : ℕ) → b < 256 → c < 256 → Together p b c → are_alike ranges b c ≡ true
+    (b c : ℕ) → b < 256 → c < 256 → AreTogether p b c → are_alike ranges b c ≡ true
 together_alike p ranges ordered has b c l u together =
     are_alike_is ranges b c ∙ eq-eqb _ _ ((same_class-together (has_boundary ranges) b c).1 (λ k low high apart.
     let within : k < 255 = omega (arith, low, high, l, u) in

@@ -12,8 +12,8 @@ class_at classes (byte b) = slice_index classes b
 class_at classes (end_of_input n) = n
 
 -- the end of the input: its number is one more than the class of the last byte
-abbrev pub end_of : List ℕ → Symbol
-end_of classes = end_of_input (slice_index classes 255 + 1)
+abbrev pub end_symbol : List ℕ → Symbol
+end_symbol classes = end_of_input (slice_index classes 255 + 1)
 
 -- how many symbols there are: the classes from 0 to that of the last byte, and the end of the input
 abbrev pub symbol_count : List ℕ → ℕ
@@ -26,7 +26,7 @@ stride2_of classes = count_by (λ k. nat_lt (2 ^ k) (symbol_count classes)) (fro
 
 -- the symbols 0 to the class of the last byte, and then the end of the input
 abbrev pub symbols : List ℕ → List Symbol
-symbols classes = map (λ c. byte c) (from_to 0 (slice_index classes 255 + 1)) ++ end_of classes ∷ []
+symbols classes = map (λ c. byte c) (from_to 0 (slice_index classes 255 + 1)) ++ end_symbol classes ∷ []
 
 -- the bytes of a class, ascending; of any end of the input, the end after 256 classes
 abbrev pub elements_of : List ℕ → Symbol → List Symbol
@@ -42,7 +42,7 @@ representing classes low high =
 abbrev pub end_if_unbounded : List ℕ → Bound ℕ → List Symbol
 end_if_unbounded classes (Included n) = []
 end_if_unbounded classes (Excluded n) = []
-end_if_unbounded classes Unbounded = end_of classes ∷ []
+end_if_unbounded classes Unbounded = end_symbol classes ∷ []
 
 -- the representatives of a range, ascending, and then the end of the input if the range has no end
 abbrev pub representatives_of : List ℕ → Bound ℕ → Bound ℕ → List Symbol

@@ -7,8 +7,8 @@ use Rattle.rsc_alphabet.specs.Bytes.{from_to, bytes}
 use Rattle.rsc_alphabet.specs.ByteSets.{Numbers}
 
 -- two bytes are together if no boundary is at least the lesser and below the greater
-abbrev pub Together : (ℕ → Bool) → ℕ → ℕ → Type 0
-Together p b c = (k : ℕ) → min b c ≤ k → k < max b c → ¬ (p k ≡ true)
+abbrev pub AreTogether : (ℕ → Bool) → ℕ → ℕ → Type 0
+AreTogether p b c = (k : ℕ) → min b c ≤ k → k < max b c → ¬ (p k ≡ true)
 
 -- the partition q has the boundaries of p
 abbrev pub HasBoundariesOf : (ℕ → Bool) → (ℕ → Bool) → Type 0

@@ -13,7 +13,7 @@ use Rattle.std.proofs.Math.Bool.{or-false, or_assoc}
 use Rattle.rsc_alphabet.specs.Bytes.{from_to}
 use Rattle.rsc_alphabet.specs.BytesLaws.{from_to_none, from_to_last, length-from_to}
 use Rattle.rsc_alphabet.specs.ByteSets.{Numbers}
-use Rattle.rsc_alphabet.specs.Partitions.{LastClassIsGreatest, Together, class_of, class_map, boundaries_of_range}
+use Rattle.rsc_alphabet.specs.Partitions.{LastClassIsGreatest, AreTogether, class_of, class_map, boundaries_of_range}
 
 -- ---- sets of numbers
 
@@ -120,14 +120,14 @@ class_of-past p b k c l h is =
     let after : class_of p (k + 1) ≤ class_of p c = rw f at (class_of-rises p (k + 1) (c - (k + 1))) in
     omega arith
 
-pub same_class-up : (p : ℕ → Bool) (b c : ℕ) → b ≤ c → (class_of p b ≡ class_of p c) ↔ Together p b c
+pub same_class-up : (p : ℕ → Bool) (b c : ℕ) → b ≤ c → (class_of p b ≡ class_of p c) ↔ AreTogether p b c
 same_class-up p b c l = (
   (λ same k low high is. let past : class_of p b < class_of p c = class_of-past p b k c (omega arith) (omega arith) is in omega arith),
   (λ together. let e : b + (c - b) ≡ c = omega arith in
       sym (rw e at (class_of-between p b (c - b) (λ k low high. together k (omega arith) (omega arith))))),
 )
 
-pub same_class-together : (p : ℕ → Bool) (b c : ℕ) → (class_of p b ≡ class_of p c) ↔ Together p b c
+pub same_class-together : (p : ℕ → Bool) (b c : ℕ) → (class_of p b ≡ class_of p c) ↔ AreTogether p b c
 same_class-together p b c =
     ⊎_elim
     (λ (l : b < c). same_class-up p b c (omega arith))
@@ -139,7 +139,7 @@ same_class-together p b c =
 
 -- two bytes have one class of a class map exactly if they are together
 pub class_map-together : (p : ℕ → Bool) (b c : ℕ) → b < 256 → c < 256 → (slice_index (class_map p) b ≡ slice_index (class_map p) c)
-    ↔ Together p b c
+    ↔ AreTogether p b c
 class_map-together p b c lb lc = rw (slice_index-class_map p b lb, slice_index-class_map p c lc) (same_class-together p b c)
 
 -- ---- classes start at 0 and rise by at most 1, so each number up to the last class is one

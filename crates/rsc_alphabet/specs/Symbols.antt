@@ -16,9 +16,9 @@ byte_of (byte b) = Some b
 byte_of (end_of_input n) = None
 
 -- the number of an end of the input, if the symbol is one
-abbrev pub sentinel_of : Symbol → Option ℕ
-sentinel_of (byte b) = None
-sentinel_of (end_of_input n) = Some n
+abbrev pub end_number_of : Symbol → Option ℕ
+end_number_of (byte b) = None
+end_number_of (end_of_input n) = Some n
 
 -- the number of a byte, or of an end of the input
 abbrev pub number_of : Symbol → ℕ

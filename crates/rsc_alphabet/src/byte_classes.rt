@@ -4,7 +4,7 @@ ghost use Rattle.std.specs.FinSet as sets;
 ghost use Rattle.std.specs.Range.Bound.{end_index};
 ghost use Rattle.rsc_alphabet.specs.Bytes.{bytes};
 ghost use Rattle.rsc_alphabet.specs.Symbols.{byte_of, number_of};
-ghost use Rattle.rsc_alphabet.specs.Iterators.{class_at, end_of, symbol_count, stride2_of, symbols, elements_of, representing, representatives_of};
+ghost use Rattle.rsc_alphabet.specs.Iterators.{class_at, end_symbol, symbol_count, stride2_of, symbols, elements_of, representing, representatives_of};
 ghost use Rattle.rsc_alphabet.specs.ByteSets.{members};
 ghost use Rattle.rsc_primitives.specs.Bits.{has_bit};
 ghost use Rattle.rsc_alphabet.specs.Partitions.{LastClassIsGreatest, class_of};
@@ -133,7 +133,7 @@ impl ByteClasses {
     /// assert!(rt; classes.get_by_unit(classes.eoi()) == 3);
     /// ```
     pub fn eoi(&self) -> Unit
-        ensures value { result ≡ end_of self.now }
+        ensures value { result ≡ end_symbol self.now }
         ensures most { number_of result ≤ 256 }
     {
         Unit::eoi(self.alphabet_len() - 1)

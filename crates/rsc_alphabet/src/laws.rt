@@ -8,10 +8,10 @@ ghost use Rattle.std.specs.declared.ops.Bound.TheVariants.{Unbounded};
 ghost use Rattle.std.specs.Range.Bound.{start_index, end_index};
 ghost use Rattle.rsc_alphabet.specs.Bytes.{bytes};
 ghost use Rattle.rsc_alphabet.specs.ByteSets.{Numbers, members, runs, IsMaximalRun};
-ghost use Rattle.rsc_alphabet.specs.Partitions.{LastClassIsGreatest, HasBoundariesOf, Together, class_map, boundaries_of_range, boundaries_of_ranges, is_boundary_of_set};
+ghost use Rattle.rsc_alphabet.specs.Partitions.{LastClassIsGreatest, HasBoundariesOf, AreTogether, class_map, boundaries_of_range, boundaries_of_ranges, is_boundary_of_set};
 ghost use Rattle.rsc_alphabet.specs.Ranges.{holds, are_alike, are_among};
 ghost use Rattle.rsc_alphabet.specs.Symbols.{Symbol, byte, symbol_cmp};
-ghost use Rattle.rsc_alphabet.specs.Iterators.{end_of, symbols, symbol_count, representatives_of};
+ghost use Rattle.rsc_alphabet.specs.Iterators.{end_symbol, symbols, symbol_count, representatives_of};
 
 use crate::{ByteClassSet, ByteClasses, ByteSet, Unit};
 
@@ -19,7 +19,7 @@ use crate::{ByteClassSet, ByteClasses, ByteSet, Unit};
 #[tactic(auto, using(crate::proofs::CitedLaws::class_map_together))]
 pub fn one_class_is_together()
     ensures { (p : ℕ → Bool) (b c : ℕ) → b < 256 → c < 256 →
-        (slice_index (class_map p) b ≡ slice_index (class_map p) c) ↔ Together p b c }
+        (slice_index (class_map p) b ≡ slice_index (class_map p) c) ↔ AreTogether p b c }
 {}
 
 /// The classes of a partition start at 0 and rise, by at most 1 from a byte to the next, so that of the byte 255 is the greatest.
@@ -38,9 +38,9 @@ pub fn classes_rise_by_one()
 #[tactic(auto, using(crate::proofs::IteratorsLemmas::slice_get_symbols, crate::proofs::IteratorsLemmas::end_comes_last, crate::proofs::IteratorsLemmas::length_symbols, crate::proofs::CitedLaws::class_within, crate::proofs::CitedLaws::class_reached))]
 pub fn each_class_comes_once()
     ensures index { (classes : List ℕ) (c : ℕ) → c ≤ slice_index classes 255 → slice_get (symbols classes) c ≡ Some (byte c) }
-    ensures end { (classes : List ℕ) → slice_get (symbols classes) (slice_index classes 255 + 1) ≡ Some (end_of classes) }
+    ensures end { (classes : List ℕ) → slice_get (symbols classes) (slice_index classes 255 + 1) ≡ Some (end_symbol classes) }
     ensures count { (classes : List ℕ) → length (symbols classes) ≡ symbol_count classes }
-    ensures within { (p : ℕ → Bool) (b : ℕ) → b < 256 → slice_index (class_map p) b ≤ slice_index (class_map p) 255 }
+    ensures bounded { (p : ℕ → Bool) (b : ℕ) → b < 256 → slice_index (class_map p) b ≤ slice_index (class_map p) 255 }
     ensures reached { (p : ℕ → Bool) (c : ℕ) → c ≤ slice_index (class_map p) 255 →
         (b : ℕ) × ((b < 256) × (slice_index (class_map p) b ≡ c)) }
 {}
@@ -51,8 +51,8 @@ pub fn each_class_comes_once()
 pub fn entries_of_a_table_are_apart()
     ensures column { (classes : List ℕ) (width b : ℕ) → LastClassIsGreatest classes → symbol_count classes ≤ width → b < 256 →
         slice_index classes b < width }
-    ensures below { (width rows row column : ℕ) → row < rows → column < width → row * width + column < rows * width }
-    ensures apart { (width row column row2 column2 : ℕ) → column < width → column2 < width →
+    ensures within { (width rows row column : ℕ) → row < rows → column < width → row * width + column < rows * width }
+    ensures distinct { (width row column row2 column2 : ℕ) → column < width → column2 < width →
         row * width + column ≡ row2 * width + column2 → (row ≡ row2) × (column ≡ column2) }
 {}
 
@@ -68,9 +68,9 @@ pub fn first_byte_is_representative()
 pub fn each_class_is_represented()
     ensures reached { (classes : List ℕ) (b : ℕ) → b < 256 →
         (r : ℕ) × ((r < 256) × Contains (representatives_of classes Unbounded Unbounded) (byte r) × (slice_index classes r ≡ slice_index classes b)) }
-    ensures end { (classes : List ℕ) → Contains (representatives_of classes Unbounded Unbounded) (end_of classes) }
+    ensures end { (classes : List ℕ) → Contains (representatives_of classes Unbounded Unbounded) (end_symbol classes) }
     ensures only { (classes : List ℕ) (u : Symbol) → Contains (representatives_of classes Unbounded Unbounded) u →
-        ((b : ℕ) × ((b < 256) × (u ≡ byte b))) ⊎ (u ≡ end_of classes) }
+        ((b : ℕ) × ((b < 256) × (u ≡ byte b))) ⊎ (u ≡ end_symbol classes) }
 {}
 
 /// The boundaries of a set's maximal runs are where membership changes from one byte to the next.
@@ -99,7 +99,7 @@ pub fn boundaries_part_a_range()
     ensures members { (start end k : ℕ) → sets.contains (boundaries_of_range (start, end)) k ≡ (k + 1 == start || (k == end && nat_lt end 255)) }
     ensures boundary { (r : ℕ × ℕ) (k : ℕ) → k < 255 → (sets.contains (boundaries_of_range r) k ≡ true) ↔ ((k + 1 ≡ r.0) ⊎ (k ≡ r.1)) }
     ensures together { (p : ℕ → Bool) (r : ℕ × ℕ) (b c : ℕ) → b < 256 → c < 256 →
-        HasBoundariesOf p (sets.contains (boundaries_of_range r)) → Together p b c → holds r b ≡ holds r c }
+        HasBoundariesOf p (sets.contains (boundaries_of_range r)) → AreTogether p b c → holds r b ≡ holds r c }
 {}
 
 /// Two bytes that are together for a partition with the boundaries of each of several ranges, whose first bytes are at most their last, are
@@ -107,7 +107,7 @@ pub fn boundaries_part_a_range()
 pub fn together_is_alike()
     ensures { (p : ℕ → Bool) (ranges : List (ℕ × ℕ)) → All (λ r. r.0 ≤ r.1) ranges →
         ((r : ℕ × ℕ) → Contains ranges r → HasBoundariesOf p (sets.contains (boundaries_of_range r))) →
-        (b c : ℕ) → b < 256 → c < 256 → Together p b c → IsTrue (are_alike ranges b c) }
+        (b c : ℕ) → b < 256 → c < 256 → AreTogether p b c → IsTrue (are_alike ranges b c) }
 {}
 
 /// Bytes that are alike for a list of ranges are in the same of them: each range holds both or neither, and so does each list of some of the
@@ -116,7 +116,7 @@ pub fn together_is_alike()
 #[tactic(auto, using(crate::proofs::RangesLemmas::alike_each, crate::proofs::RangesLemmas::alike_some, crate::proofs::RangesLemmas::alike_among, crate::proofs::RangesLemmas::alike_neighbours))]
 pub fn alike_bytes_share_their_ranges()
     ensures each { (ranges : List (ℕ × ℕ)) (b c : ℕ) → IsTrue (are_alike ranges b c) → (r : ℕ × ℕ) → Contains ranges r → holds r b ≡ holds r c }
-    ensures some { (ranges part : List (ℕ × ℕ)) (b c : ℕ) → IsTrue (are_alike ranges b c) → ((r : ℕ × ℕ) → Contains part r → Contains ranges r) →
+    ensures any { (ranges part : List (ℕ × ℕ)) (b c : ℕ) → IsTrue (are_alike ranges b c) → ((r : ℕ × ℕ) → Contains part r → Contains ranges r) →
         list_any (λ r. holds r b) part ≡ list_any (λ r. holds r c) part }
     ensures among { (ranges part : List (ℕ × ℕ)) (b c : ℕ) → IsTrue (are_alike ranges b c) → IsTrue (are_among part ranges) →
         list_any (λ r. holds r b) part ≡ list_any (λ r. holds r c) part }

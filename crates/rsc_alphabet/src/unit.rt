@@ -1,6 +1,6 @@
 //! The symbols that an automaton reads.
 ghost use Rattle.std.specs.Prelude.{◌≡◌, ◌≤◌, ◌↔◌, IsTrue, IsSome, Some};
-ghost use Rattle.rsc_alphabet.specs.Symbols.{byte as a_byte, end_of_input, byte_of, sentinel_of, number_of, is_word_symbol};
+ghost use Rattle.rsc_alphabet.specs.Symbols.{byte as a_byte, end_of_input, byte_of, end_number_of, number_of, is_word_symbol};
 
 use rsc_primitives::escape::DebugByte;
 use rsc_primitives::utf8;
@@ -129,7 +129,7 @@ impl Unit {
     /// The sentinel of an end of the input, or `None` for a byte.
     #[inline]
     pub fn as_eoi(self) -> Option<u16>
-        ensures { result ≡ sentinel_of self }
+        ensures { result ≡ end_number_of self }
     {
         match self.0 {
             UnitKind::U8(_) => None,
@@ -159,7 +159,7 @@ impl Unit {
     /// Whether this is an end of the input.
     #[inline]
     pub fn is_eoi(self) -> bool
-        ensures { IsTrue result ↔ IsSome (sentinel_of self) }
+        ensures { IsTrue result ↔ IsSome (end_number_of self) }
     {
         self.as_eoi().is_some()
     }

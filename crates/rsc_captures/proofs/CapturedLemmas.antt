@@ -1,7 +1,7 @@
 -- The span of a group, the spans of all groups, and the pieces that they cut.
 use Rattle.std.proofs.Common.{◌≡◌, ℕ, ◌+◌, ◌≤◌, List, length, get_or, Option, Some, None, refl, option_and_then, suc, ◌-◌, ◌<◌, ◌∷◌, map, ap, arith, zero, Bool, true, false, cond, [], ◌++◌, take, sym, ◌∙◌, eqb, append_assoc, option_map}
 use Rattle.std.proofs.lemmas.List.{get_or_past, map-append, length_push}
-use Rattle.rsc_captures.proofs.Prelude.{Span, span_at, Captured, group_span, matched_groups, matched_spans, participating, spans_from, participating_from, all_some, pieces}
+use Rattle.rsc_captures.proofs.Prelude.{Span, span_at, Captured, group_span, matched_group_count, matched_spans, participating_spans, spans_from, participating_from, all_some, pieces}
 use Rattle.std.specs.List.{filter_map, range_with_len}
 use Rattle.std.proofs.lemmas.List.FromFn.{length-map-range_with_len, get_or-map-range_with_len}
 use Rattle.std.proofs.lemmas.Grind.{common_steps}
@@ -64,26 +64,26 @@ pub spans_counted : (c : Captured) (i n : ℕ) → length (map (group_span c) (r
 spans_counted c = length-map-range_with_len (group_span c)
 
 -- the groups from one on, and the first of them
-range_step : (c : Captured) (i : ℕ) → i < matched_groups c
-    → range_with_len i (matched_groups c - i) ≡ i ∷ range_with_len (i + 1) (matched_groups c - (i + 1))
-range_step c i lt = let more : matched_groups c - i ≡ suc (matched_groups c - (i + 1)) = omega arith in rw more refl
+range_step : (c : Captured) (i : ℕ) → i < matched_group_count c
+    → range_with_len i (matched_group_count c - i) ≡ i ∷ range_with_len (i + 1) (matched_group_count c - (i + 1))
+range_step c i lt = let more : matched_group_count c - i ≡ suc (matched_group_count c - (i + 1)) = omega arith in rw more refl
 
 -- the spans from a group on, and the first of them
-pub spans_from_first : (c : Captured) (i : ℕ) → i < matched_groups c → spans_from c i ≡ group_span c i ∷ spans_from c (i + 1)
+pub spans_from_first : (c : Captured) (i : ℕ) → i < matched_group_count c → spans_from c i ≡ group_span c i ∷ spans_from c (i + 1)
 spans_from_first c i lt = ap (map (group_span c)) (range_step c i lt)
 
 -- the next group participates, or it doesn't
-pub participating_step : (c : Captured) (i : ℕ) → i < matched_groups c
-    → participating_from c i ≡ filter_map (group_span c) (i ∷ range_with_len (i + 1) (matched_groups c - (i + 1)))
+pub participating_step : (c : Captured) (i : ℕ) → i < matched_group_count c
+    → participating_from c i ≡ filter_map (group_span c) (i ∷ range_with_len (i + 1) (matched_group_count c - (i + 1)))
 participating_step c i lt = ap (filter_map (group_span c)) (range_step c i lt)
 
 -- from the first group on these are all
-pub all_participating : (c : Captured) → participating c ≡ participating_from c 0
-all_participating c = let all : matched_groups c ≡ matched_groups c - 0 = omega arith in ap (λ n. filter_map (group_span c) (range_with_len 0 n)) all
+pub all_participating : (c : Captured) → participating_spans c ≡ participating_from c 0
+all_participating c = let all : matched_group_count c ≡ matched_group_count c - 0 = omega arith in ap (λ n. filter_map (group_span c) (range_with_len 0 n)) all
 
 -- the span of a group is at its index
-pub span_by_index : (c : Captured) (i : ℕ) → i < matched_groups c → get_or (matched_spans c) i None ≡ group_span c i
-span_by_index c i lt = get_or-map-range_with_len (group_span c) 0 (matched_groups c) i i None (omega arith) (omega arith)
+pub span_by_index : (c : Captured) (i : ℕ) → i < matched_group_count c → get_or (matched_spans c) i None ≡ group_span c i
+span_by_index c i lt = get_or-map-range_with_len (group_span c) 0 (matched_group_count c) i i None (omega arith) (omega arith)
 
 -- ---- the pieces that the first groups cut, as a loop over the groups finds them
 
@@ -116,7 +116,7 @@ take_past (x ∷ xs) y ys (suc n) lt = let rest : (zs : List _)
 -- what a loop over the groups has found, before it goes on at `next`
 pub record FoundSoFar (cut : Span → Option (List ℕ)) (c : Captured) (next n : ℕ) (found : List (List ℕ)) : Type 0 where
   pub before : List Span
-  pub split : participating c ≡ before ++ participating_from c next
+  pub split : participating_spans c ≡ before ++ participating_from c next
   pub count : length before ≡ n
   pub cuts : all_some (map cut before) ≡ Some found
 
@@ -138,18 +138,18 @@ module _ {cut : Span → Option (List ℕ)} {c : Captured} {next k : ℕ} {found
 
   -- a span that cuts nothing out ends it
   pub pieces_bad : (n : ℕ) (span : Span) (after : List Span) → k < n → participating_from c next ≡ span ∷ after → cut span ≡ None
-      → pieces cut n (participating c) ≡ None
+      → pieces cut n (participating_spans c) ≡ None
   pieces_bad n span after lt step bad =
-      let split : participating c ≡ so_far.before ++ span ∷ after = so_far.split ∙ ap (λ rest. so_far.before ++ rest) step in
+      let split : participating_spans c ≡ so_far.before ++ span ∷ after = so_far.split ∙ ap (λ rest. so_far.before ++ rest) step in
       let taken = take_past so_far.before span after n (omega (arith, so_far.count)) in
-      let none : all_some (map cut (take n (participating c))) ≡ None =
+      let none : all_some (map cut (take n (participating_spans c))) ≡ None =
       rw (split, taken.1, map-append, bad) (all_some_none (map cut so_far.before) (map cut taken.0)) in
-      rw none (cond_same (eqb (length (take n (participating c))) n))
+      rw none (cond_same (eqb (length (take n (participating_spans c))) n))
 
   -- all pieces are found
-  pub pieces_whole : pieces cut k (participating c) ≡ Some found
+  pub pieces_whole : pieces cut k (participating_spans c) ≡ Some found
   pieces_whole =
-      let taken : take k (participating c) ≡ so_far.before =
+      let taken : take k (participating_spans c) ≡ so_far.before =
       rw (so_far.split, ← so_far.count) (take-append_seam so_far.before (participating_from c next)) in
       let same : eqb (length so_far.before) k ≡ true = grind (arith, common_steps, so_far.count) in
       rw (taken, same) so_far.cuts

@@ -4,7 +4,7 @@ use Rattle.std.specs.Option.{ForSome}
 use Rattle.std.proofs.lemmas.Bool.Decides.{nat_tests}
 use Rattle.rsc_search.specs.declared.span.Span.{Span}
 use Rattle.rsc_captures.specs.Groups.{GroupLists, slot_of}
-use Rattle.rsc_captures.specs.Captured.{Captured, span_at, with_span, first_slot, slot_here, group_span}
+use Rattle.rsc_captures.specs.Captured.{Captured, span_at, with_span, first_slot, slot_present, group_span}
 use Rattle.rsc_captures.proofs.SlotOwnersLemmas.{one_start, start_no_end}
 
 -- ---- two slots
@@ -83,7 +83,7 @@ within n (Some s) slot e = go (nat_lt (s + 1) n) refl e
     go true f g = let same : s ≡ slot = cc in let l : s + 1 < n = grind (arith, nat_tests) in (g, subst (λ x. x + 1 < n) same l)
     go false f g = absurd (cc)
 
-is_here : (c : Captured) (i slot : ℕ) → slot_here c i ≡ Some slot → IsHere c i slot
+is_here : (c : Captured) (i slot : ℕ) → slot_present c i ≡ Some slot → IsHere c i slot
 is_here c i slot e = go c.pattern refl e
   where
     go : (o : Option ℕ) → c.pattern ≡ o
@@ -98,7 +98,7 @@ abbrev pub Rewritten : Captured → ℕ → Option Span → Captured
 Rewritten c slot span = record c { offsets = with_span c.offsets slot span }
 
 -- the group's span is the one that is written
-pub group_written : (c new : Captured) (i slot : ℕ) (span : Option Span) → slot_here c i ≡ Some slot → new ≡ Rewritten c slot span
+pub group_written : (c new : Captured) (i slot : ℕ) (span : Option Span) → slot_present c i ≡ Some slot → new ≡ Rewritten c slot span
     → group_span new i ≡ span
 group_written c new i slot span e is =
     let h = is_here c i slot e in
@@ -107,7 +107,7 @@ group_written c new i slot span e is =
     ∙ ap (λ o. option_and_then (span_at (with_span c.offsets slot span)) o) h.first ∙ span_written c.offsets slot span h.room
 
 -- and every other group's is as before
-pub group_kept : (c new : Captured) (i slot j : ℕ) (span : Option Span) → slot_here c i ≡ Some slot → new ≡ Rewritten c slot span → j ≢ i
+pub group_kept : (c new : Captured) (i slot j : ℕ) (span : Option Span) → slot_present c i ≡ Some slot → new ≡ Rewritten c slot span → j ≢ i
     → group_span new j ≡ group_span c j
 group_kept c new i slot j span e is differ =
     let h = is_here c i slot e in
@@ -125,12 +125,12 @@ group_kept c new i slot j span e is differ =
 -- ---- what a call that writes or refuses leaves
 
 module _ (c new : Captured) (i : ℕ) (span : Option Span) (done : Bool) (P : Type 0)
-    (decides : IsTrue done ↔ (IsTrue (is_some (slot_here c i)) × P))
-    (written : IsTrue done → ForSome (slot_here c i) (λ slot. new ≡ Rewritten c slot span)) where
-  to_slot : (R : Type 0) → IsTrue done → ((slot : ℕ) → slot_here c i ≡ Some slot → new ≡ Rewritten c slot span → R) → R
-  to_slot R d given = go (slot_here c i) refl (decides.0 d).0
+    (decides : IsTrue done ↔ (IsTrue (is_some (slot_present c i)) × P))
+    (written : IsTrue done → ForSome (slot_present c i) (λ slot. new ≡ Rewritten c slot span)) where
+  to_slot : (R : Type 0) → IsTrue done → ((slot : ℕ) → slot_present c i ≡ Some slot → new ≡ Rewritten c slot span → R) → R
+  to_slot R d given = go (slot_present c i) refl (decides.0 d).0
     where
-      go : (o : Option ℕ) → slot_here c i ≡ o → IsTrue (is_some o) → R
+      go : (o : Option ℕ) → slot_present c i ≡ o → IsTrue (is_some o) → R
       go None e some = absurd (true≢false (sym some))
       go (Some slot) e some = given slot e (written d slot e)
 

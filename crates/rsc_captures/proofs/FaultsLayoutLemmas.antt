@@ -3,7 +3,7 @@ use Rattle.std.proofs.Common.{◌≡◌, ◌⊎◌, ⊎_elim, ℕ, zero, suc, �
 use Rattle.std.specs.Prelude.{⊤}
 use mathlib.Core.Bool.{true≢false}
 use borrow.Author.Count.{below_more}
-use Rattle.rsc_captures.proofs.Prelude.{Groups, GroupLists, groups_of, group_count, name_of, explicit_groups, explicit_before, Fault, TooManyGroups, Duplicate, ComesBefore, IsChecked, pattern_fault, name_fault, group_fault, slots_end, IsFirstFault, IsFaultless, FirstIsDuplicate, RefusesFor, HasNoOtherBefore, HasNoOtherFault, IsFirstOther, is_repeat, AreDistinctBelow, HasNoRepeatBefore, IsFirstRepeatBefore}
+use Rattle.rsc_captures.proofs.Prelude.{Groups, GroupLists, groups_of, group_count, name_of, explicit_groups, explicit_before, Fault, TooManyGroups, Duplicate, ComesBefore, IsChecked, pattern_fault, name_fault, group_fault, slots_end, IsFirstFault, IsFaultless, FirstIsDuplicate, IsRefusal, HasNoOtherBefore, HasNoOtherFault, IsFirstOther, is_repeat, AreDistinctBelow, HasNoRepeatBefore, IsFirstRepeatBefore}
 use Rattle.rsc_captures.proofs.FaultsLemmas.{before_more, explicit_group_at, group_clear, name_fault_clear, name_fault_repeat, name_fault_none, no_repeat_at_zero}
 use Rattle.rsc_captures.proofs.GroupsLemmas.{sum_rises}
 use Rattle.rsc_captures.proofs.SlotOwnersLemmas.{pattern_in}
@@ -115,7 +115,7 @@ past_limit n p all before pattern past least = record {
 
 -- a refusal for the first fault
 pub refuses_first : (limit : ℕ) (lists : GroupLists) (refusal : Option Fault) → MatchOption refusal ⊥ (IsFirstFault limit lists)
-    → RefusesFor limit lists refusal
+    → IsRefusal limit lists refusal
 refuses_first limit lists None first = absurd first
 refuses_first limit lists (Some f) first = first
 
@@ -160,7 +160,7 @@ module _ {limit : ℕ} {lists : GroupLists} (no_other : HasNoOtherFault limit li
 
   -- what `build` says of a refusal, as the list's
   pub refuses_from : (n : ℕ) → length lists ≡ n → (refusal : Option Fault) → MatchOption refusal ⊤ (IsFirstRepeatBefore lists n 0)
-      → RefusesFor limit lists refusal
+      → IsRefusal limit lists refusal
   refuses_from n all None m =
       elim (first_of (length lists) (omega arith)) as (λ _. IsFaultless limit lists
       ⊎ FirstIsDuplicate limit lists) [ inl none ↦ inl (faultless_from none) | inr found ↦ inr found ]
@@ -174,6 +174,6 @@ MatchOption-some_weaker (Some x) R P Q weaker m = weaker x m
 
 -- a refusal for a repeated name that is the first fault, or out of memory
 pub refuses_repeat : {limit : ℕ} {lists : GroupLists} {p : ℕ} {name : List ℕ} → IsFirstFault limit lists (Duplicate p name) → (refusal : Option Fault)
-    → MatchOption refusal ⊤ (λ shown. shown ≡ Duplicate p name) → RefusesFor limit lists refusal
+    → MatchOption refusal ⊤ (λ shown. shown ≡ Duplicate p name) → IsRefusal limit lists refusal
 refuses_repeat found (Some shown) same = rw same found
 refuses_repeat {p = p} {name = name} found None same = inr (p, name, found)

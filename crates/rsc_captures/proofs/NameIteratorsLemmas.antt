@@ -1,7 +1,7 @@
 -- The steps of the iterator over all groups, and how many it gives.
 use Rattle.std.proofs.Common.{◌≡◌, ℕ, ◌+◌, ◌<◌, ◌≤◌, [], ◌∷◌, ◌++◌, length, drop, None, refl, ap, ◌∙◌, arith, sym, ap₂, length-append}
 use Rattle.std.proofs.lemmas.List.{drop_more, drop_all}
-use Rattle.rsc_captures.proofs.Prelude.{Groups, GroupLists, groups_of, group_count, name_of, groups_from, patterns_from, names_left, max_index, IsFaultless, groups_before, IsAt, all_groups, all_names_of}
+use Rattle.rsc_captures.proofs.Prelude.{Groups, GroupLists, groups_of, group_count, name_of, groups_from, patterns_from, names_left, max_index, IsFaultless, groups_before, IsAt, all_group_count, all_names_of}
 use Rattle.rsc_captures.proofs.FaultsLemmas.{some_group}
 use Rattle.rsc_captures.proofs.NamesLayoutLemmas.{groups_more}
 use Rattle.std.proofs.lemmas.List.Sums.{sum_by-cons}
@@ -56,12 +56,12 @@ length-groups_from p g [] = refl
 length-groups_from p g (name ∷ groups) = let rest : length (groups_from p (g + 1) groups) ≡ length groups = length-groups_from p (g + 1) groups in
     omega (arith, rest)
 
-length-patterns_from : (p : ℕ) (lists : GroupLists) → length (patterns_from p lists) ≡ all_groups lists
+length-patterns_from : (p : ℕ) (lists : GroupLists) → length (patterns_from p lists) ≡ all_group_count lists
 length-patterns_from p [] = refl
 length-patterns_from p (groups ∷ lists) =
     length-append (groups_from p 0 groups) (patterns_from (p + 1) lists)
     ∙ ap₂ (λ m n. m + n) (length-groups_from p 0 groups) (length-patterns_from (p + 1) lists) ∙ sym (sum_by-cons length groups lists)
 
 -- as many names as groups
-pub names_counted : (lists : GroupLists) → length (all_names_of lists) ≡ all_groups lists
+pub names_counted : (lists : GroupLists) → length (all_names_of lists) ≡ all_group_count lists
 names_counted lists = length-patterns_from 0 lists

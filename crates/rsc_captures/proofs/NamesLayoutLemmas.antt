@@ -6,7 +6,7 @@ use Rattle.std.proofs.lemmas.List.{drop-append-le, take-append-le, get_or_append
 use Rattle.std.proofs.lemmas.List.Elements.{All-push, All-tail}
 use Rattle.std.proofs.Math.Seq.{drop-append_seam, take-length, get_or-append_seam}
 use Rattle.std.proofs.lemmas.Str.{IsCharBoundary-at_seam, IsCharBoundary-end}
-use Rattle.rsc_captures.proofs.Prelude.{Entry, NO_NAME, Groups, lists_in, name_held, names_held, entry_held, IsCut, AreCut, AreHeld, GroupLists, group_count, explicit_before, all_groups, max_index, IsFaultless, groups_before, AreFirsts}
+use Rattle.rsc_captures.proofs.Prelude.{Entry, NO_NAME, Groups, lists_in, name_held, names_held, entry_held, IsCut, AreCut, AreHeld, GroupLists, group_count, explicit_before, all_group_count, max_index, IsFaultless, groups_before, AreFirsts}
 use borrow.Author.Count.{below_more}
 use Rattle.std.proofs.lemmas.List.Sums.{sum_by_more}
 use Rattle.rsc_captures.proofs.GroupsLemmas.{Handed, handed, in_lists, group_count_in}
@@ -118,10 +118,10 @@ groups_so_far lists (suc n) le nonempty =
     rw (← add-one) (omega arith)
 
 -- the groups of all patterns
-pub all_before : (lists : GroupLists) → groups_before lists (length lists) ≡ all_groups lists
+pub all_before : (lists : GroupLists) → groups_before lists (length lists) ≡ all_group_count lists
 all_before lists = ap (sum_by length) (take-length lists)
 
 -- all groups are the first of each pattern and the explicit ones
-pub all_groups_are : (lists : GroupLists) → IsFaultless max_index lists → all_groups lists ≡ length lists + explicit_before lists (length lists)
+pub all_groups_are : (lists : GroupLists) → IsFaultless max_index lists → all_group_count lists ≡ length lists + explicit_before lists (length lists)
 all_groups_are lists faultless = sym (all_before lists)
     ∙ groups_so_far lists (length lists) (omega arith) (some_group lists faultless)

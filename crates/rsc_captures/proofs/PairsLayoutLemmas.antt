@@ -3,8 +3,8 @@ use Rattle.std.proofs.Common.{[], ◌⊎◌, ◌≡◌, ℕ, zero, suc, ◌+◌,
 use Rattle.std.proofs.lemmas.Bool.{cases_lt, lt-ltb}
 use Rattle.std.proofs.lemmas.Bool.Decides.{nat_tests}
 use Rattle.std.proofs.lemmas.List.Sums.{get_or-le-sum_by}
-use Rattle.rsc_captures.proofs.Prelude.{GroupLists, group_count, slot_of, slot_number, all_groups, max_index, span_at, Captured, group_span}
-use Rattle.rsc_captures.specs.Captured.{first_slot, slot_here}
+use Rattle.rsc_captures.proofs.Prelude.{GroupLists, group_count, slot_of, slot_number, all_group_count, max_index, span_at, Captured, group_span}
+use Rattle.rsc_captures.specs.Captured.{first_slot, slot_present}
 use Rattle.rsc_captures.specs.PairsLayout.{slot_within, pair_number, slot_by_pairs, ArePairs, IsRest}
 use Rattle.rsc_captures.proofs.CapturedLemmas.{none_past}
 use Rattle.rsc_captures.proofs.SlotOwnersLemmas.{slot_explicit, slot_facts, pattern_in}
@@ -77,8 +77,8 @@ pairs_of_many groups q n count within rest many counts is at_most one all none p
         (cases_lt i (group_count groups q)))
 
 -- the rest by the slot of group 1, and its limit
-pub rest_by_slot : (groups : GroupLists) (q slot : ℕ) → slot_of groups q 1 ≡ Some slot → slot + 1 < 2 * all_groups groups
-    → 2 * all_groups groups ≤ max_index
+pub rest_by_slot : (groups : GroupLists) (q slot : ℕ) → slot_of groups q 1 ≡ Some slot → slot + 1 < 2 * all_group_count groups
+    → 2 * all_group_count groups ≤ max_index
     → (1 ≤ slot / 2) × IsRest groups q (slot / 2 - 1) × (((slot / 2 - 1) + group_count groups q) ≤ max_index + 1) × (q ≤ slot / 2 - 1)
 rest_by_slot groups q slot is within limit =
     let facts = slot_facts groups q 1 slot is in
@@ -115,7 +115,7 @@ here groups pattern n count first rest i slot are is = go pattern (are i ∙ is)
     go (Some q) e = at_slot (first_slot groups q i) e
 
 -- the span of a group is that of its slots, where both are here
-pub span_here : (c : Captured) (i : ℕ) → group_span c i ≡ option_and_then (span_at c.offsets) (slot_here c i)
+pub span_here : (c : Captured) (i : ℕ) → group_span c i ≡ option_and_then (span_at c.offsets) (slot_present c i)
 span_here c i = go c.pattern
   where
     go : (o : Option ℕ) → option_and_then (λ q. option_and_then (span_at c.offsets) (first_slot c.groups q i)) o ≡

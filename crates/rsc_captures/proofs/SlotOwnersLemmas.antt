@@ -4,7 +4,7 @@ use Rattle.std.proofs.lemmas.Bool.{cases_lt, lt-ltb, ltb-true}
 use Rattle.std.proofs.lemmas.Bool.Decides.{nat_tests}
 use Rattle.std.proofs.lemmas.List.{get_or_past}
 use Rattle.std.proofs.lemmas.Option.{cond_some}
-use Rattle.rsc_captures.proofs.Prelude.{GroupLists, group_count, explicit_groups, explicit_before, all_groups, slot_number, slot_of, max_index, IsFaultless, IsSlotOf, IsOwned, groups_before}
+use Rattle.rsc_captures.proofs.Prelude.{GroupLists, group_count, explicit_groups, explicit_before, all_group_count, slot_number, slot_of, max_index, IsFaultless, IsSlotOf, IsOwned, groups_before}
 use Rattle.rsc_captures.proofs.FaultsLemmas.{some_group, before_more}
 use Rattle.rsc_captures.proofs.GroupsLemmas.{sum_rises}
 use Rattle.rsc_captures.proofs.NamesLayoutLemmas.{all_groups_are, groups_so_far}
@@ -69,7 +69,7 @@ module _ (lists : GroupLists) (checked : IsFaultless max_index lists) where
       (cases_lt h (length lists))
 
   -- each slot has a group, and one alone
-  pub each_owned : (s : ℕ) → s < 2 * all_groups lists → IsOwned lists s
+  pub each_owned : (s : ℕ) → s < 2 * all_group_count lists → IsOwned lists s
   each_owned s lt =
       let found = owned_half (s / 2) (omega (arith, all_groups_are lists checked)) in
       let either = ⊎_elim (λ (e : s % 2 < 1). inl (omega arith)) (λ (e : 1 ≤ s % 2). inr (omega arith)) (cases_lt (s % 2) 1) in
@@ -128,7 +128,7 @@ start_no_end lists p g q h s t mine other next =
 -- ---- the slots of a group are below the number of all slots
 
 pub number_within : (lists : GroupLists) → IsFaultless max_index lists → (p g : ℕ) → g < group_count lists p
-    → slot_number lists p g + 1 < 2 * all_groups lists
+    → slot_number lists p g + 1 < 2 * all_group_count lists
 number_within lists checked p zero lt = let pattern : p < length lists = pattern_in lists p 0 lt in omega (arith, all_groups_are lists checked)
 number_within lists checked p (suc g) lt =
     let pattern : p < length lists = pattern_in lists p (suc g) lt in
@@ -136,11 +136,11 @@ number_within lists checked p (suc g) lt =
     omega (arith, slot_explicit lists p g, before_more lists p pattern, all_groups_are lists checked)
 
 pub slot_within : (lists : GroupLists) → IsFaultless max_index lists → (p g slot : ℕ) → slot_of lists p g ≡ Some slot
-    → slot + 1 < 2 * all_groups lists
+    → slot + 1 < 2 * all_group_count lists
 slot_within lists checked p g slot is = let facts = slot_facts lists p g slot is in omega (arith, facts.1, number_within lists checked p g facts.0)
 
 -- all slots are within the limit: two for each group
-pub slots_within_limit : (lists : GroupLists) → IsFaultless max_index lists → all_groups lists ≤ 1073741823
+pub slots_within_limit : (lists : GroupLists) → IsFaultless max_index lists → all_group_count lists ≤ 1073741823
 slots_within_limit lists checked =
     ⊎_elim
     (λ (some : 0 < length lists).
@@ -154,9 +154,9 @@ slots_within_limit lists checked =
 
 -- a group's two slots are among all slots
 pub slot_among_all : (lists : GroupLists) → IsFaultless max_index lists → (p g : ℕ)
-    → IfSome (slot_of lists p g) (λ slot. slot + 1 < 2 * all_groups lists)
+    → IfSome (slot_of lists p g) (λ slot. slot + 1 < 2 * all_group_count lists)
 slot_among_all lists faultless p g = elim (slot_of lists p g) as (λ o. slot_of lists p g ≡ o
-    → IfSome o (λ slot. slot + 1 < 2 * all_groups lists)) [ None ↦ λ _. tt | Some slot ↦ slot_within lists faultless p g slot ] refl
+    → IfSome o (λ slot. slot + 1 < 2 * all_group_count lists)) [ None ↦ λ _. tt | Some slot ↦ slot_within lists faultless p g slot ] refl
 
 -- the slot of an explicit group: each pattern before has a first group, whose slots are counted apart
 pub explicit_slot : (lists : GroupLists) (p g first : ℕ) → IsFaultless max_index lists → first ≡ groups_before lists p → g < group_count lists p

@@ -6,7 +6,7 @@ use Rattle.rsc_search.specs.declared.span.Span.{Span}
 use Rattle.rsc_search.specs.Matches.{Matched}
 use Rattle.rsc_captures.specs.Groups.{GroupLists, groups_of, group_count, slot_of, index_of}
 
--- what a contract sees of captures: the pattern that matched, if there is one, and an offset for each slot that is set
+-- what a contract sees of captures: the groups, the pattern that matched, if there is one, and for each slot its offset, if it is set
 pub record Captured : Type 0 where
   pub groups : GroupLists
   pub pattern : Option ℕ
@@ -26,9 +26,9 @@ first_slot groups q i = if length groups == 1 then Some (2 * i) else slot_of gro
 abbrev pub group_span : Captured → ℕ → Option Span
 group_span c i = option_and_then (λ q. option_and_then (span_at c.offsets) (first_slot c.groups q i)) c.pattern
 
--- the first slot of group i of the pattern that matched, where both slots of the group are here
-abbrev pub slot_here : Captured → ℕ → Option ℕ
-slot_here c i =
+-- the first slot of group i of the pattern that matched, where the captures have both slots of the group
+abbrev pub slot_present : Captured → ℕ → Option ℕ
+slot_present c i =
     option_and_then (λ q. option_and_then (λ slot. if nat_lt (slot + 1) (length c.offsets) then Some slot else None) (first_slot c.groups q i)) c.pattern
 
 -- the offsets with those of a span in a slot and the next, or with neither set
@@ -44,21 +44,21 @@ FitsSlots s = (s.start < 2 ^ 64 - 1) × (s.end < 2 ^ 64 - 1)
 abbrev pub named_span : Captured → List ℕ → Option Span
 named_span c name = option_and_then (group_span c) (option_and_then (λ q. index_of (groups_of c.groups q) name) c.pattern)
 
--- no pattern, and that many slots, none of them set
-abbrev pub no_offsets : GroupLists → ℕ → Captured
-no_offsets groups count = record { groups = groups; pattern = None; offsets = replicate count None }
+-- captures without a pattern, with that many slots, none of them set
+abbrev pub unset_captures : GroupLists → ℕ → Captured
+unset_captures groups count = record { groups = groups; pattern = None; offsets = replicate count None }
 
 -- how many groups the pattern has that matched
-abbrev pub matched_groups : Captured → ℕ
-matched_groups c = option_map_or (group_count c.groups) c.pattern 0
+abbrev pub matched_group_count : Captured → ℕ
+matched_group_count c = option_map_or (group_count c.groups) c.pattern 0
 
 -- the span of each group of the pattern that matched
 abbrev pub matched_spans : Captured → List (Option Span)
-matched_spans c = map (group_span c) (range_with_len 0 (matched_groups c))
+matched_spans c = map (group_span c) (range_with_len 0 (matched_group_count c))
 
 -- the spans of the groups that participate in the match, in order
-abbrev pub participating : Captured → List Span
-participating c = filter_map (group_span c) (range_with_len 0 (matched_groups c))
+abbrev pub participating_spans : Captured → List Span
+participating_spans c = filter_map (group_span c) (range_with_len 0 (matched_group_count c))
 
 -- the values, where each is there
 abbrev pub all_some : {X : Type 0} → List (Option X) → Option (List X)

@@ -3,8 +3,8 @@ ghost use Rattle.std.specs.Prelude.{◌≡◌, ◌↔◌, ℕ, List, Option, ◌
 ghost use Rattle.std.specs.Option.{option_map, ForSome};
 ghost use Rattle.std.specs.Borrow.{sem};
 ghost use Rattle.rsc_search.specs.declared.span.Span.{Span};
-ghost use Rattle.rsc_captures.specs.Groups.{all_groups, slots_of};
-ghost use Rattle.rsc_captures.specs.Captured.{Captured, no_offsets, span_at, group_span, slot_here, with_span, FitsSlots, matched_groups, matched_spans, named_span, match_of};
+ghost use Rattle.rsc_captures.specs.Groups.{all_group_count, slots_of};
+ghost use Rattle.rsc_captures.specs.Captured.{Captured, unset_captures, span_at, group_span, slot_present, with_span, FitsSlots, matched_group_count, matched_spans, named_span, match_of};
 
 use crate::group_info::GroupInfo;
 use crate::pairs::Pairs;
@@ -58,7 +58,7 @@ impl<A: Allocator> Drop for Captures<A> {
 
 impl<A: Allocator> Model for Captures<A> {
     ghost use Rattle.std.specs.Prelude.{◌*◌, ◌≤◌, length};
-    ghost use Rattle.rsc_captures.specs.Groups.{all_groups};
+    ghost use Rattle.rsc_captures.specs.Groups.{all_group_count};
     ghost use Rattle.rsc_captures.specs.Captured.{Captured};
     ghost use Rattle.rsc_captures.specs.PairsLayout.{ArePairs};
 
@@ -66,7 +66,7 @@ impl<A: Allocator> Model for Captures<A> {
 
     ghost view = { λ c. record { groups = c.group_info; pattern = c.pid; offsets = c.slots.items } };
 
-    ghost invariant = { λ c. (length c.slots.items ≤ 2 * all_groups c.group_info)
+    ghost invariant = { λ c. (length c.slots.items ≤ 2 * all_group_count c.group_info)
         × ArePairs c.group_info c.pid (length c.slots.items) c.pairs.count c.pairs.first c.pairs.rest };
 }
 
@@ -79,8 +79,8 @@ impl<A: Allocator + Clone + Drop> Captures<A> {
         group_info: GroupInfo<A>,
         count: usize,
     ) -> Result<Captures<A>, AllocError>
-        requires { count ≤ 2 * all_groups group_info }
-        ensures { IfOk result (λ c. c ≡ no_offsets group_info count) }
+        requires { count ≤ 2 * all_group_count group_info }
+        ensures { IfOk result (λ c. c ≡ unset_captures group_info count) }
     {
         Ok(Captures {
             group_info,
@@ -96,7 +96,7 @@ impl<A: Allocator + Clone + Drop> Captures<A> {
     ///
     /// If memory runs out; the group info is dropped then.
     pub fn all(alloc: A, group_info: GroupInfo<A>) -> Result<Captures<A>, AllocError>
-        ensures { IfOk result (λ c. c ≡ no_offsets group_info (2 * all_groups group_info)) }
+        ensures { IfOk result (λ c. c ≡ unset_captures group_info (2 * all_group_count group_info)) }
     {
         let count = group_info.slot_len();
         Captures::with_slots(alloc, group_info, count)
@@ -109,7 +109,7 @@ impl<A: Allocator + Clone + Drop> Captures<A> {
     ///
     /// If memory runs out; the group info is dropped then.
     pub fn matches(alloc: A, group_info: GroupInfo<A>) -> Result<Captures<A>, AllocError>
-        ensures { IfOk result (λ c. c ≡ no_offsets group_info (2 * length group_info)) }
+        ensures { IfOk result (λ c. c ≡ unset_captures group_info (2 * length group_info)) }
     {
         let count = group_info.implicit_slot_len();
         Captures::with_slots(alloc, group_info, count)
@@ -117,7 +117,7 @@ impl<A: Allocator + Clone + Drop> Captures<A> {
 
     /// Captures with no slots: they can say which pattern matched, and no more. Takes no memory, and is always `Ok`.
     pub fn empty(alloc: A, group_info: GroupInfo<A>) -> Result<Captures<A>, AllocError>
-        ensures { result ≡ Ok (no_offsets group_info 0) }
+        ensures { result ≡ Ok (unset_captures group_info 0) }
     {
         Ok(Captures {
             group_info,
@@ -189,7 +189,7 @@ impl<A: Allocator + Clone + Drop> Captures<A> {
 
     /// Takes the pattern and all offsets away.
     pub fn clear(&mut self)
-        ensures { self.new ≡ no_offsets self.old.groups (length self.old.offsets) }
+        ensures { self.new ≡ unset_captures self.old.groups (length self.old.offsets) }
     {
         self.pid = None;
         self.pairs.clear();
@@ -222,9 +222,9 @@ impl<A: Allocator + Clone + Drop> Captures<A> {
     /// ```
     #[inline]
     pub fn set_group(&mut self, index: usize, span: Option<Span>) -> bool
-        ensures accepted { IsTrue result ↔ (IsTrue (is_some (slot_here self.old index)) × ForSome span FitsSlots) }
+        ensures accepted { IsTrue result ↔ (IsTrue (is_some (slot_present self.old index)) × ForSome span FitsSlots) }
         ensures value { IsTrue result →
-            ForSome (slot_here self.old index) (λ slot. self.new ≡ record self.old { offsets = with_span self.old.offsets slot span }) }
+            ForSome (slot_present self.old index) (λ slot. self.new ≡ record self.old { offsets = with_span self.old.offsets slot span }) }
         ensures kept { ¬ (IsTrue result) → self.new ≡ self.old }
         ensures span { IsTrue result → group_span self.new index ≡ span }
         ensures others { (other : ℕ) → ¬ (other ≡ index) → group_span self.new other ≡ group_span self.old other }
@@ -236,9 +236,9 @@ impl<A: Allocator + Clone + Drop> Captures<A> {
     #[tactic(auto, using(crate::proofs::PairsLayoutLemmas::here))]
     #[inline]
     fn write_group(&mut self, index: usize, span: Option<Span>) -> bool
-        ensures accepted { IsTrue result ↔ (IsTrue (is_some (slot_here self.old index)) × ForSome span FitsSlots) }
+        ensures accepted { IsTrue result ↔ (IsTrue (is_some (slot_present self.old index)) × ForSome span FitsSlots) }
         ensures value { IsTrue result →
-            ForSome (slot_here self.old index) (λ slot. self.new ≡ record self.old { offsets = with_span self.old.offsets slot span }) }
+            ForSome (slot_present self.old index) (λ slot. self.new ≡ record self.old { offsets = with_span self.old.offsets slot span }) }
         ensures kept { ¬ (IsTrue result) → self.new ≡ self.old }
     {
         match self.pairs.slot(index) {
@@ -270,7 +270,7 @@ impl<A: Allocator + Clone + Drop> Captures<A> {
     /// How many groups the pattern that matched has; 0 without one, or if it is unknown.
     #[inline]
     pub fn group_len(&self) -> usize
-        ensures { result ≡ matched_groups self.now }
+        ensures { result ≡ matched_group_count self.now }
     {
         match self.pid {
             Some(pid) => self.group_info.group_len(pid),
@@ -283,7 +283,7 @@ impl<A: Allocator + Clone + Drop> Captures<A> {
     #[inline]
     pub fn get_group(&self, index: usize) -> Option<Span>
         ensures value { result ≡ group_span self.now index }
-        ensures alone { length self.now.groups ≡ 1 → self.now.pattern ≡ Some 0 →
+        ensures one_pattern { length self.now.groups ≡ 1 → self.now.pattern ≡ Some 0 →
             result ≡ option_and_then (λ slots. span_at self.now.offsets slots.0) (slots_of self.now.groups 0 index) }
     {
         self.group_span(index)
@@ -294,7 +294,7 @@ impl<A: Allocator + Clone + Drop> Captures<A> {
     #[inline]
     fn group_span(&self, index: usize) -> Option<Span>
         ensures value { result ≡ group_span self.now index }
-        ensures room { length self.now.offsets ≤ 2 * all_groups self.now.groups }
+        ensures room { length self.now.offsets ≤ 2 * all_group_count self.now.groups }
     {
         let slots = self.slots.as_slice();
         let slot = self.pairs.slot(index)?;
@@ -316,7 +316,7 @@ impl<A: Allocator + Clone + Drop> Captures<A> {
     #[inline]
     pub fn iter(&self) -> CapturesPatternIter<'_, A>
         ensures value { result ≡ matched_spans self.now }
-        ensures count { length result ≡ matched_groups self.now }
+        ensures count { length result ≡ matched_group_count self.now }
     {
         CapturesPatternIter {
             captures: self,

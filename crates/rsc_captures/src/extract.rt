@@ -3,7 +3,7 @@ ghost use Rattle.std.specs.Prelude.{◌≡◌, ℕ, List, Option, ◌+◌, ◌�
 ghost use Rattle.std.specs.Option.{option_map};
 ghost use Rattle.rsc_search.specs.Spans.{cut, cut_text};
 ghost use Rattle.rsc_search.specs.declared.span.Span.{Span};
-ghost use Rattle.rsc_captures.specs.Captured.{matched_groups, participating, pieces};
+ghost use Rattle.rsc_captures.specs.Captured.{matched_group_count, participating_spans, pieces};
 ghost use Rattle.rsc_captures.specs.CapturedLayout.{participating_from};
 
 use crate::captures::Captures;
@@ -48,7 +48,7 @@ impl<A: Allocator + Clone + Drop> Captures<A> {
     #[tactic(auto, using(crate::proofs::CapturedLemmas::participating_step))]
     #[inline(always)]
     fn next_participating(&self, from: usize, group_len: usize) -> Option<(Span, usize)>
-        requires { group_len ≡ matched_groups self.now }
+        requires { group_len ≡ matched_group_count self.now }
         ensures { MatchOption result (participating_from self.now from ≡ [])
             (λ found. participating_from self.now from ≡ found.0 ∷ participating_from self.now found.1) }
     {
@@ -77,7 +77,7 @@ impl<A: Allocator + Clone + Drop> Captures<A> {
     #[inline]
     pub fn extract_from<H: Haystack, const N: usize>(&self, haystack: H) -> Option<(H, [H; N])>
         ensures { option_map (λ parts. H.bytes parts.0 ∷ map H.bytes parts.1) result
-            ≡ pieces (H.cut_of (H.bytes haystack)) (N + 1) (participating self.now) }
+            ≡ pieces (H.cut_of (H.bytes haystack)) (N + 1) (participating_spans self.now) }
     {
         let group_len = self.group_len();
         let (span, mut next) = self.next_participating(0, group_len)?;
@@ -97,7 +97,7 @@ impl Captures {
     #[inline]
     fn extract_parts<H: Haystack, const N: usize>(&self, haystack: H) -> Option<(H, [H; N])>
         ensures { option_map (λ parts. H.bytes parts.0 ∷ map H.bytes parts.1) result
-            ≡ pieces (H.cut_of (H.bytes haystack)) (N + 1) (participating self.now) }
+            ≡ pieces (H.cut_of (H.bytes haystack)) (N + 1) (participating_spans self.now) }
     {
         self.extract_from::<H, N>(haystack)
     }
@@ -107,7 +107,7 @@ impl Captures {
     #[inline]
     pub fn extract<'h, const N: usize>(&self, haystack: &'h str) -> Option<(&'h str, [&'h str; N])>
         ensures { option_map (λ parts. parts.0.now ∷ map (λ p. p.now) parts.1) result
-            ≡ pieces (cut_text haystack.now) (N + 1) (participating self.now) }
+            ≡ pieces (cut_text haystack.now) (N + 1) (participating_spans self.now) }
     {
         self.extract_parts::<&str, N>(haystack)
     }
@@ -120,7 +120,7 @@ impl Captures {
         haystack: &'h [u8],
     ) -> Option<(&'h [u8], [&'h [u8]; N])>
         ensures { option_map (λ parts. parts.0.now ∷ map (λ p. p.now) parts.1) result
-            ≡ pieces (cut haystack.now) (N + 1) (participating self.now) }
+            ≡ pieces (cut haystack.now) (N + 1) (participating_spans self.now) }
     {
         self.extract_parts::<&[u8], N>(haystack)
     }

@@ -1,9 +1,9 @@
 //! The groups of all patterns, and the slots of their offsets.
 ghost use Rattle.std.specs.Prelude.{◌≡◌, ℕ, ◌+◌, ◌-◌, ◌*◌, ◌<◌, ◌≤◌, ◌↔◌, length, ⊤, [], Some, None, IfOk, IfErr, IfSome, OnOk, MatchOption, MatchResult};
 ghost use Rattle.std.specs.Option.{option_copied};
-ghost use Rattle.rsc_captures.specs.Groups.{lists_in, groups_of, group_count, name_of, index_of, slot_of, slots_of, all_groups};
+ghost use Rattle.rsc_captures.specs.Groups.{lists_in, groups_of, group_count, name_of, index_of, slot_of, slots_of, all_group_count};
 ghost use Rattle.rsc_primitives.specs.Indices.{max_index};
-ghost use Rattle.rsc_captures.specs.Faults.{IsFaultless, RefusesFor};
+ghost use Rattle.rsc_captures.specs.Faults.{IsFaultless, IsRefusal};
 ghost use Rattle.rsc_captures.specs.FaultsLayout.{HasNoOtherFault};
 ghost use Rattle.rsc_captures.specs.NameIterators.{all_names_of};
 ghost use Rattle.rsc_captures.specs.SlotOwners.{IsSlotOf, IsOwned};
@@ -78,9 +78,9 @@ impl<A: Allocator + Clone + Drop> GroupInfo<A> {
     /// Names are sorted, pattern by pattern, and each is looked up in their order by binary search. The names of a list with any other
     /// fault are sorted in batches, each in a table on the stack, and a batch's names and those after it are looked up there.
     pub fn new(alloc: A, lists: &[&[Option<&str>]]) -> Result<GroupInfo<A>, GroupInfoError<A>>
-        ensures groups { IfOk result (λ info. info ≡ lists_in lists.now) }
+        ensures made { IfOk result (λ info. info ≡ lists_in lists.now) }
         ensures faultless { OnOk result (IsFaultless max_index (lists_in lists.now)) }
-        ensures refused { IfErr result (RefusesFor max_index (lists_in lists.now)) }
+        ensures refused { IfErr result (IsRefusal max_index (lists_in lists.now)) }
     {
         GroupInfo::new_limited(alloc, SLOT_LIMIT, lists)
     }
@@ -108,9 +108,9 @@ impl<A: Allocator + Clone + Drop> GroupInfo<A> {
         lists: &[&[Option<&str>]],
     ) -> Result<GroupInfo<A>, GroupInfoError<A>>
         requires { limit ≤ max_index }
-        ensures groups { IfOk result (λ info. info ≡ lists_in lists.now) }
+        ensures made { IfOk result (λ info. info ≡ lists_in lists.now) }
         ensures faultless { OnOk result (IsFaultless limit (lists_in lists.now)) }
-        ensures refused { IfErr result (RefusesFor limit (lists_in lists.now)) }
+        ensures refused { IfErr result (IsRefusal limit (lists_in lists.now)) }
     {
         let Some((group, other)) = first_other_fault(limit, lists) else {
             return build(alloc, lists);
@@ -127,7 +127,7 @@ impl<A: Allocator + Clone + Drop> GroupInfo<A> {
     ///
     /// If memory runs out.
     pub fn empty(alloc: A) -> Result<GroupInfo<A>, GroupInfoError<A>>
-        ensures groups { IfOk result (λ info. info ≡ []) }
+        ensures made { IfOk result (λ info. info ≡ []) }
         ensures refused { IfErr result (λ e. e ≡ None) }
     {
         GroupInfo::new(alloc, &[])
@@ -156,7 +156,7 @@ impl<A: Allocator + Clone + Drop> GroupInfo<A> {
     #[inline]
     pub fn all_names(&self) -> GroupInfoAllNames<'_, A>
         ensures value { result ≡ all_names_of self.now }
-        ensures count { length result ≡ all_groups self.now }
+        ensures count { length result ≡ all_group_count self.now }
         ensures most { 2 * length result ≤ max_index }
     {
         GroupInfoAllNames::new(self.lists())
@@ -216,7 +216,7 @@ impl<A: Allocator + Clone + Drop> GroupInfo<A> {
     #[inline]
     pub fn slot(&self, pid: PatternID, group_index: usize) -> Option<usize>
         ensures value { result ≡ slot_of self.now pid group_index }
-        ensures within { IfSome result (λ slot. slot + 1 < 2 * all_groups self.now) }
+        ensures within { IfSome result (λ slot. slot + 1 < 2 * all_group_count self.now) }
     {
         self.lists().slot(pid.as_usize(), group_index)
     }
@@ -225,7 +225,7 @@ impl<A: Allocator + Clone + Drop> GroupInfo<A> {
     #[inline]
     pub fn slots(&self, pid: PatternID, group_index: usize) -> Option<(usize, usize)>
         ensures value { result ≡ slots_of self.now pid group_index }
-        ensures within { IfSome result (λ slots. slots.1 < 2 * all_groups self.now) }
+        ensures within { IfSome result (λ slots. slots.1 < 2 * all_group_count self.now) }
     {
         let slot = self.slot(pid, group_index)?;
         Some((slot, slot + 1))
@@ -235,10 +235,10 @@ impl<A: Allocator + Clone + Drop> GroupInfo<A> {
     #[tactic(auto, using(crate::proofs::SlotOwnersLemmas::each_owned))]
     #[inline]
     pub fn slot_len(&self) -> usize
-        ensures value { result ≡ 2 * all_groups self.now }
+        ensures value { result ≡ 2 * all_group_count self.now }
         ensures most { result ≤ max_index }
         ensures owned { (s : ℕ) → s < result → IsOwned self.now s }
-        ensures owner { (s p g q h : ℕ) → IsSlotOf self.now p g s → IsSlotOf self.now q h s → (p ≡ q) × (g ≡ h) }
+        ensures one_owner { (s p g q h : ℕ) → IsSlotOf self.now p g s → IsSlotOf self.now q h s → (p ≡ q) × (g ≡ h) }
     {
         2 * self.lists().all_group_len()
     }
@@ -246,7 +246,7 @@ impl<A: Allocator + Clone + Drop> GroupInfo<A> {
     /// How many groups all patterns have.
     #[inline]
     pub fn all_group_len(&self) -> usize
-        ensures { result ≡ all_groups self.now }
+        ensures { result ≡ all_group_count self.now }
     {
         self.lists().all_group_len()
     }
@@ -256,7 +256,7 @@ impl<A: Allocator + Clone + Drop> GroupInfo<A> {
     #[inline]
     pub fn implicit_slot_len(&self) -> usize
         ensures value { result ≡ 2 * length self.now }
-        ensures within { result ≤ 2 * all_groups self.now }
+        ensures within { result ≤ 2 * all_group_count self.now }
     {
         2 * self.lists().len()
     }
@@ -265,7 +265,7 @@ impl<A: Allocator + Clone + Drop> GroupInfo<A> {
     #[tactic(auto, using(crate::proofs::NamesLayoutLemmas::all_groups_are))]
     #[inline]
     pub fn explicit_slot_len(&self) -> usize
-        ensures { result ≡ 2 * all_groups self.now - 2 * length self.now }
+        ensures { result ≡ 2 * all_group_count self.now - 2 * length self.now }
     {
         let lists = self.lists();
         2 * (lists.all_group_len() - lists.len())

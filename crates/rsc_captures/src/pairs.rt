@@ -5,7 +5,7 @@
 //! is the same for all of them: `rest`. With one pattern group i has pair i.
 ghost use Rattle.std.specs.Prelude.{◌≡◌, ℕ, ◌+◌, ◌*◌, ◌<◌, ◌≤◌, ◌⊎◌};
 ghost use Rattle.rsc_primitives.specs.Indices.{max_index};
-ghost use Rattle.rsc_captures.specs.Groups.{all_groups, group_count};
+ghost use Rattle.rsc_captures.specs.Groups.{all_group_count, group_count};
 ghost use Rattle.rsc_captures.specs.PairsLayout.{ArePairs, IsRest, slot_by_pairs};
 
 use crate::group_info::GroupInfo;
@@ -53,7 +53,7 @@ impl Pairs {
         pid: Option<PatternID>,
         slots: usize,
     ) -> Pairs
-        requires { slots ≤ 2 * all_groups group_info.now }
+        requires { slots ≤ 2 * all_group_count group_info.now }
         ensures { ArePairs group_info.now pid slots result.count result.first result.rest }
     {
         let Some(pid) = pid else {

@@ -5,7 +5,7 @@
 //! Where none has the name, a binary search in the order of the pattern's names decides.
 ghost use Rattle.std.specs.Prelude.{◌≡◌, ◌*◌, ◌<◌, ◌≤◌, length, IfOk, IfSome, Some};
 ghost use Rattle.std.specs.Option.{option_copied};
-ghost use Rattle.rsc_captures.specs.Groups.{lists_in, groups_of, group_count, name_of, index_of, slot_of, all_groups};
+ghost use Rattle.rsc_captures.specs.Groups.{lists_in, groups_of, group_count, name_of, index_of, slot_of, all_group_count};
 ghost use Rattle.rsc_primitives.specs.Indices.{max_index};
 ghost use Rattle.rsc_captures.specs.Faults.{IsFaultless};
 ghost use Rattle.rsc_captures.specs.FaultsLayout.{HasNoOtherFault};
@@ -71,7 +71,7 @@ impl<A: Allocator + Clone + Drop> SharedLists<A> {
     /// How many groups all patterns have.
     #[inline]
     pub(crate) fn all_group_len(&self) -> usize
-        ensures value { result ≡ all_groups self.now }
+        ensures value { result ≡ all_group_count self.now }
         ensures limit { 2 * result ≤ max_index }
         ensures faultless { IsFaultless max_index self.now }
     {

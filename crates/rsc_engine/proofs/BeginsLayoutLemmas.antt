@@ -11,7 +11,7 @@ use Rattle.rsc_engine.specs.Parts.{pattern_of}
 use Rattle.rsc_engine.specs.EnclosesLayout.{Encloses}
 use Rattle.rsc_engine.specs.LinksLayout.{Aim, StepsLead, Realizes, Adds, Builds, IsAdded}
 use Rattle.std.proofs.Math.Seq.{drop-length}
-use Rattle.rsc_captures.specs.Groups.{GroupLists, all_groups, slot_number}
+use Rattle.rsc_captures.specs.Groups.{GroupLists, all_group_count, slot_number}
 use Rattle.rsc_look.specs.declared.assertion.Look.{Look}
 use Rattle.rsc_engine.specs.StatesLayout.{asked_by, some_ask, FitsAndAsks, AreSoundIn}
 use Rattle.rsc_engine.proofs.StatesLayoutLemmas.{FitsAndAsks-alike, AreSound-pattern, AreSound-alike, AreSound-more, or_none}
@@ -31,9 +31,9 @@ use Rattle.rsc_engine.specs.StepsLayout.{last_place}
 use Rattle.rsc_engine.proofs.CompileLemmas.{Adds-one, Adds-both, Adds-is, grown}
 use Rattle.rsc_engine.specs.BeginsLayout.{IsPatternStates}
 use Rattle.rsc_search.specs.Matches.{Matched}
-use Rattle.rsc_search.specs.Modes.{pattern_of_mode}
+use Rattle.rsc_search.specs.Modes.{only_pattern}
 use Rattle.rsc_engine.specs.Searches.{Search, Compiled, search_in}
-use Rattle.rsc_engine.specs.Runs.{Leads, IsMatchOf, is_accepting, is_wanted}
+use Rattle.rsc_engine.specs.Runs.{Leads, IsMatchOf, is_accepting, is_allowed}
 use Rattle.rsc_engine.proofs.PatternOrderLemmas.{PrefersFrom-one, PrefersFrom-fork}
 use Rattle.rsc_engine.proofs.RunsLemmas.{run-before, step-within}
 use Rattle.rsc_engine.proofs.RunsLemmas.{leads-rises}
@@ -92,9 +92,9 @@ OneBegins groups old new first n p states =
     × OrdersOne states (slot_number groups n) (length new) first n p
 
 pub Adds-pattern : (groups : GroupLists) (old middle later last new : List State) (accept number after start end body first index : ℕ) (p : Pattern)
-    → number ≡ index → start ≡ 2 * number → end ≡ 2 * number + 1 → start < 2 * all_groups groups → end < 2 * all_groups groups
+    → number ≡ index → start ≡ 2 * number → end ≡ 2 * number + 1 → start < 2 * all_group_count groups → end < 2 * all_group_count groups
     → IsAdded old middle (Accept number) accept → IsAdded middle later (Capture end accept) after
-    → Builds (end, 2 * all_groups groups) later last body after (numbered (slot_number groups index) 1 p) → IsAdded last new (Capture start body) first
+    → Builds (end, 2 * all_group_count groups) later last body after (numbered (slot_number groups index) 1 p) → IsAdded last new (Capture start body) first
     → Adds old new (λ (states : List State). Begins states first (IsOfOne index p)
     × (index < length groups → AreSoundIn groups (asked_by p) old new first states)
     × OrdersOne states (slot_number groups index) (length new) first index p)
@@ -111,10 +111,10 @@ Adds-pattern groups old middle later last new accept number after start end body
       subst (λ (q : ℕ). Begins states first (IsOfOne q p)) same
           (Begins-one states (slot_number groups index) number (length later) (length last) accept after body first p (whole states y z) (plain states y)
           y.1.3),
-      λ l. AreSound-pattern (2 * all_groups groups) (length groups) (asked_by p) (length old) (length later) (length last) (length new) accept number
+      λ l. AreSound-pattern (2 * all_group_count groups) (length groups) (asked_by p) (length old) (length later) (length last) (length new) accept number
           after start end body first end states (omega (arith, l, same)) starts ends sw ew a.last (omega (arith, b.last, one)) (omega (arith, two, one))
           x.longer c.last (grown last new (Capture start body) first c) y.0.0 y.0.1 y.1.1
-          (FitsAndAsks-alike (2 * all_groups groups) (asked_by (numbered (slot_number groups index) 1 p)) (asked_by p) (length later) (length last) states
+          (FitsAndAsks-alike (2 * all_group_count groups) (asked_by (numbered (slot_number groups index) 1 p)) (asked_by p) (length later) (length last) states
           (numbered-asks (slot_number groups index) 1 p) y.1.2)
           z,
       subst (λ (q : ℕ). OrdersOne states (slot_number groups index) (length new) first q p) same
@@ -129,7 +129,7 @@ Adds-pattern groups old middle later last new accept number after start end body
     IsPart : List State → List State → ℕ → ℕ → List State → Type 0
     IsPart from to low high states =
         Realizes states low high (numbered (slot_number groups index) 1 p) × Encloses end (length from) (length to) low high states
-        × FitsAndAsks (2 * all_groups groups) (asked_by (numbered (slot_number groups index) 1 p)) (length from) (length to) states
+        × FitsAndAsks (2 * all_group_count groups) (asked_by (numbered (slot_number groups index) 1 p)) (length from) (length to) states
         × ByWays states low high (numbered (slot_number groups index) 1 p)
         × TakesCourse (length from) (length to) low high (numbered (slot_number groups index) 1 p) states
 
@@ -244,7 +244,7 @@ Adds-last groups old new first n p patterns at last x =
     Adds-is old new (OneBegins groups old new first n p) (SomeBegin groups old new first n patterns)
     (λ states b. (
       Begins-is states first (IsOfOne n p) (IsOfSome n patterns) (last-is patterns n p at) (last-back patterns n p at last) b.0,
-      λ l. AreSound-alike (2 * all_groups groups) (length groups) (asked_by p) (some_ask (drop n patterns)) (length old) (length new) first states
+      λ l. AreSound-alike (2 * all_group_count groups) (length groups) (asked_by p) (some_ask (drop n patterns)) (length old) (length new) first states
           (λ f. sym (any_last patterns n p at last f)) (b.1 (omega (arith, l, last))),
       OrdersSome-last states (slot_number groups) (length new) first n p patterns at last b.2,
     )) x
@@ -288,9 +288,9 @@ Adds-more groups old middle last new one first id n p patterns at x y a =
       Begins-is states id (λ (t : Aim) (i : ℕ). IsOfOne n p t i ⊎ IsOfSome (n + 1) patterns t i) (IsOfSome n patterns)
           (more-is patterns n p at) (more-back patterns n p at)
           (Begins-either states id one first (IsOfOne n p) (IsOfSome (n + 1) patterns) is b.1.0 b.0.0 (λ s t i j x y. omega (arith, x.0, y.0))),
-      λ l. AreSound-alike (2 * all_groups groups) (length groups) (λ f. asked_by p f || some_ask (drop (n + 1) patterns) f) (some_ask (drop n patterns))
+      λ l. AreSound-alike (2 * all_group_count groups) (length groups) (λ f. asked_by p f || some_ask (drop (n + 1) patterns) f) (some_ask (drop n patterns))
           (length old) (length new) id states (λ f. sym (any_from patterns n p at f))
-          (AreSound-more (2 * all_groups groups) (length groups) (asked_by p) (some_ask (drop (n + 1) patterns)) (length old)
+          (AreSound-more (2 * all_group_count groups) (length groups) (asked_by p) (some_ask (drop (n + 1) patterns)) (length old)
           (length middle) (length last) (length new) one first id states x.longer y.longer a.last (grown last new (Fork one first) id a) (b.0.1 l)
           (b.1.1 (omega (arith, l, slice_get_within patterns n p at))) is),
       OrdersSome-more states (slot_number groups) (length middle) (length last) (length new) id one first n p patterns at is y.longer (omega (arith, a.last))
@@ -378,7 +378,7 @@ run_from e found (suc n) s i low x =
 -- ---- both
 
 -- the state of a match accepts its pattern, if that is wanted
-accepting : (wanted : Option ℕ) (o : Option State) (q : ℕ) → o ≡ Some (Accept q) → is_wanted wanted q ≡ is_accepting wanted o
+accepting : (wanted : Option ℕ) (o : Option State) (q : ℕ) → o ≡ Some (Accept q) → is_allowed wanted q ≡ is_accepting wanted o
 accepting wanted o q e = rw e refl
 
 has_match : (e : Search) (patterns : List Pattern) (found : Matched) → Begins e.states e.start_state (IsOfSome 0 patterns)
@@ -391,8 +391,8 @@ has_match e patterns found b h =
     let s = b.sound (aim_of e found) (length h.run - 1) found.span.start here in
     record {
       pattern = s.1;
-      its = s.2;
-      wanted = accepting (pattern_of_mode e.mode) (slice_get e.states (place h.run (length h.run - 1)).0) found.pattern h.makes.pattern ∙ r.ends;
+      is_pattern = s.2;
+      allowed = accepting (only_pattern e.mode) (slice_get e.states (place h.run (length h.run - 1)).0) found.pattern h.makes.pattern ∙ r.ends;
       start = subst (λ (p : ℕ × ℕ). e.start ≤ p.1) r.begins ((r.is_run.places 0 r.some).1);
       end = omega (arith, h.makes.end, (r.is_run.places (length h.run - 1) (omega (arith, r.some))).2);
       goes = s.3;
@@ -401,7 +401,7 @@ has_match e patterns found b h =
 has_run : (e : Search) (patterns : List Pattern) (found : Matched) → Begins e.states e.start_state (IsOfSome 0 patterns)
     → IsMatchIn patterns e found → HasRunOf e found
 has_run e patterns found b m =
-    let h = b.complete (aim_of e found) found.span.start (omega arith, m.pattern, m.its, m.goes) m.end in
+    let h = b.complete (aim_of e found) found.span.start (omega arith, m.pattern, m.is_pattern, m.goes) m.end in
     let r = run_from e found h.steps e.start_state found.span.start m.start h.ends in
     record {
       run = r.run;
@@ -409,7 +409,7 @@ has_run e patterns found b m =
         is_run = r.is_run;
         some = r.some;
         begins = r.begins;
-        ends = sym (accepting (pattern_of_mode e.mode) (slice_get e.states (place r.run (length r.run - 1)).0) found.pattern r.pattern) ∙ m.wanted;
+        ends = sym (accepting (only_pattern e.mode) (slice_get e.states (place r.run (length r.run - 1)).0) found.pattern r.pattern) ∙ m.allowed;
       };
       makes = record { pattern = r.pattern; start = sym (ap (λ (p : ℕ × ℕ). p.1) r.begins); end = sym r.end };
     }

@@ -14,7 +14,7 @@ use Rattle.rsc_engine.specs.StatesLayout.{Fits, asked_by, FitsAndAsks}
 use Rattle.rsc_engine.proofs.StatesLayoutLemmas.{FitsAndAsks-none, FitsAndAsks-joined, FitsAndAsks-one, FitsAndAsks-above, FitsAndAsks-alike, nothing, either_back, between-same}
 use Rattle.rsc_captures.specs.Groups.{GroupLists, slot_number}
 use Rattle.std.proofs.lemmas.Bool.Decides.{nat_tests}
-use Rattle.rsc_engine.specs.GroupNumbers.{count_groups, numbered}
+use Rattle.rsc_engine.specs.GroupNumbers.{group_count_in, numbered}
 use Rattle.rsc_engine.specs.LinksLayout.{Adds, Builds, BuildsPart, IsAdded, Realizes}
 use Rattle.rsc_engine.proofs.LinksLayoutLemmas.{Realizes-never, Realizes-range, Realizes-assert, Realizes-capture, Realizes-empty, Realizes-is, Realizes-then, Realizes-between, Realizes-either, one_of_one}
 use Rattle.rsc_engine.proofs.EnclosesLayoutLemmas.{Encloses-one, Encloses-then, Encloses-either}
@@ -345,7 +345,7 @@ pub BuildsPart-then : (slot_of : ℕ → ℕ) (slots : ℕ × ℕ) (left mid now
     → BuildsPart slot_of slots left now old new first next (Then p q)
 BuildsPart-then slot_of slots left mid now old middle new first between next p q x y = (
   omega (arith, x.0, y.0),
-  Builds-then slots old middle new first between next (numbered slot_of now p) (numbered slot_of (now + count_groups p) q)
+  Builds-then slots old middle new first between next (numbered slot_of now p) (numbered slot_of (now + group_count_in p) q)
       (subst (λ (n : ℕ). Builds slots old middle between next (numbered slot_of n q)) y.0 x.1) y.1,
   omega (arith, x.2, y.2),
 )
@@ -356,7 +356,7 @@ pub BuildsPart-either : (slot_of : ℕ → ℕ)
     → IsAdded last new (Fork one other) id → BuildsPart slot_of slots left now old new id next (Either p q)
 BuildsPart-either slot_of slots left mid now old middle last new one other id next p q x y a = (
   omega (arith, x.0, y.0),
-  Builds-either slots old middle last new one other id next (numbered slot_of now p) (numbered slot_of (now + count_groups p) q)
+  Builds-either slots old middle last new one other id next (numbered slot_of now p) (numbered slot_of (now + group_count_in p) q)
       (subst (λ (n : ℕ). Builds slots old middle other next (numbered slot_of n q)) y.0 x.1) y.1 a,
   omega (arith, x.2, y.2, a.one),
 )

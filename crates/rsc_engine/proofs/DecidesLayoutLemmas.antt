@@ -5,7 +5,7 @@ use Rattle.std.proofs.lemmas.Bool.{cases_lt}
 use Rattle.rsc_nfa.specs.Steps.{place}
 use Rattle.rsc_nfa.specs.declared.state.State.TheVariants.{Fork}
 use Rattle.rsc_engine.specs.Searches.{Search}
-use Rattle.rsc_engine.specs.Runs.{Leads, IsPlace, accepts, HasNoMatch}
+use Rattle.rsc_engine.specs.Runs.{Leads, IsPlace, accepts, HasNoMatchFrom}
 use Rattle.rsc_engine.specs.Preferred.{MayBegin}
 use Rattle.rsc_engine.specs.DecidesLayout.{last_of, IsHopeless, IsBest, IsMore, unseen, Decides, IsLastPlace}
 use Rattle.rsc_engine.proofs.ForwardStepsLemmas.{match-one, avoids-one, first_of_fork, last-before, open-more, best-less, best-before, hopeless-before, best-over, hopeless-over}
@@ -151,7 +151,7 @@ module _ (e : Search) (i : ℕ) (claim : ℕ × ℕ → Type 0) where
 
 -- ---- where matches begin
 
-pub first-end : (e : Search) (i : ℕ) (run : List (ℕ × ℕ)) → MayBegin e i → ((at : ℕ) → e.start ≤ at → at < i → HasNoMatch e at)
+pub first-end : (e : Search) (i : ℕ) (run : List (ℕ × ℕ)) → MayBegin e i → ((at : ℕ) → e.start ≤ at → at < i → HasNoMatchFrom e at)
     → IsBest e i unseen e.start_state run → IsLastPlace e (last_of run)
 first-end e i run may none best = record {
   run = run;
@@ -170,14 +170,14 @@ first-end e i run may none best = record {
     here : (place run 0).1 ≡ i
     here = ap (λ (q : ℕ × ℕ). q.1) best.is_unseen.is_match.begins
 
-pub none-more : (e : Search) (i : ℕ) → ((at : ℕ) → e.start ≤ at → at < i → HasNoMatch e at) → IsHopeless e i unseen e.start_state
-    → (at : ℕ) → e.start ≤ at → at < i + 1 → HasNoMatch e at
+pub none-more : (e : Search) (i : ℕ) → ((at : ℕ) → e.start ≤ at → at < i → HasNoMatchFrom e at) → IsHopeless e i unseen e.start_state
+    → (at : ℕ) → e.start ≤ at → at < i + 1 → HasNoMatchFrom e at
 none-more e i none hopeless at low l = ⊎_elim
     (λ (lt : at < i). none at low lt)
     (λ (le : i ≤ at). let same : at ≡ i = omega (arith, le, l) in rw same (λ run m. hopeless run (record { is_match = m; avoids = λ k l h. refl })))
     (cases_lt at i)
 
 -- the start state decides where matches begin
-pub decides-start : (e : Search) (i : ℕ) → MayBegin e i → ((at : ℕ) → e.start ≤ at → at < i → HasNoMatch e at)
-    → Decides e i unseen (IsLastPlace e) ((at : ℕ) → e.start ≤ at → at < i + 1 → HasNoMatch e at) (e.start_state ∷ [])
+pub decides-start : (e : Search) (i : ℕ) → MayBegin e i → ((at : ℕ) → e.start ≤ at → at < i → HasNoMatchFrom e at)
+    → Decides e i unseen (IsLastPlace e) ((at : ℕ) → e.start ≤ at → at < i + 1 → HasNoMatchFrom e at) (e.start_state ∷ [])
 decides-start e i may none = (λ run best. first-end e i run may none best, λ hopeless. none-more e i none hopeless)

@@ -2,13 +2,13 @@
 use Rattle.std.proofs.Common.{◌≡◌, ℕ, zero, suc, ◌+◌, ◌-◌, ◌<◌, ◌≤◌, ⊎_elim, ◌∙◌, Bool, true, false, ◌&&◌, List, length, slice_get, slice_index, Option, Some, None, MatchOption, IfNone, IsTrue, refl, sym, ap, arith, true≢false, nat_le}
 use Rattle.std.proofs.lemmas.Bool.{cases_lt, leb-true, le-leb}
 use Rattle.std.proofs.lemmas.Option.{get_or_from_slice_get}
-use Rattle.rsc_search.specs.Modes.{pattern_of_mode}
+use Rattle.rsc_search.specs.Modes.{only_pattern}
 use Rattle.rsc_search.specs.declared.anchored.Anchored.TheVariants.{No}
 use Rattle.rsc_nfa.specs.declared.state.State.{State}
 use Rattle.rsc_nfa.specs.declared.state.State.TheVariants.{ByteRange, Assert, Fork, Capture, Accept}
 use Rattle.rsc_nfa.specs.Steps.{StepsTo, place, is_between}
 use Rattle.rsc_engine.specs.Searches.{Search}
-use Rattle.rsc_engine.specs.Runs.{Leads, is_accepting, IsMatchRun, HasNoMatch}
+use Rattle.rsc_engine.specs.Runs.{Leads, is_accepting, IsMatchRun, HasNoMatchFrom}
 use Rattle.rsc_engine.specs.Preferred.{MayBegin, IsLeftmostFirst, HasNoFirstMatch}
 use Rattle.rsc_engine.specs.Ends.{IsMatchEnd, IsEarliestEnd}
 use Rattle.rsc_engine.specs.RowsLayout.{machine_of, IsMarked}
@@ -53,7 +53,7 @@ module _ (e : Search) (range : ℕ × ℕ) (f : HasFirst (machine_of e) range) (
       go (Some (Capture slot next)) is l = to_next next l.0 l.1 (f.begins p.0 (Capture slot next) is w.1)
       go (Some (Accept p)) is l = absurd l
 
-  pub none_begins : HasNoMatch e at
+  pub none_begins : HasNoMatchFrom e at
   none_begins run m = go (slice_get e.states (place run last).0) refl m.ends
     where
       last : ℕ
@@ -70,7 +70,7 @@ module _ (e : Search) (range : ℕ × ℕ) (f : HasFirst (machine_of e) range) (
           let there : k < length run = omega (arith, h) in
           rw same (step (place run k) (place run (k + 1)) (stays k there) (m.is_run.steps k h))
 
-      go : (o : Option State) → slice_get e.states (place run last).0 ≡ o → is_accepting (pattern_of_mode e.mode) o ≡ true → ⊥
+      go : (o : Option State) → slice_get e.states (place run last).0 ≡ o → is_accepting (only_pattern e.mode) o ≡ true → ⊥
       go None is h = true≢false (sym h)
       go (Some (ByteRange low high next)) is h = true≢false (sym h)
       go (Some (Assert look next)) is h = true≢false (sym h)
@@ -80,7 +80,7 @@ module _ (e : Search) (range : ℕ × ℕ) (f : HasFirst (machine_of e) range) (
 
 -- ---- a search from a later start
 
-module _ (e : Search) (s : ℕ) (low : e.start ≤ s) (none : (at : ℕ) → e.start ≤ at → at < s → HasNoMatch e at)
+module _ (e : Search) (s : ℕ) (low : e.start ≤ s) (none : (at : ℕ) → e.start ≤ at → at < s → HasNoMatchFrom e at)
     (anchored : ¬ (e.mode ≡ No) → s ≡ e.start) where
   may-earlier : (at : ℕ) → MayBegin (start_at e s) at → MayBegin e at
   may-earlier at may = record { start = omega (arith, low, may.start); end = may.end; anchored = λ no. may.anchored no ∙ anchored no }

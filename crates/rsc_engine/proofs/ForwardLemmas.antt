@@ -4,7 +4,7 @@ use Rattle.std.proofs.lemmas.Bool.{cases_lt}
 use Rattle.rsc_search.specs.declared.anchored.Anchored.{Anchored}
 use Rattle.rsc_search.specs.declared.anchored.Anchored.TheVariants.{No, Yes, Pattern}
 use Rattle.rsc_engine.specs.Searches.{Search}
-use Rattle.rsc_engine.specs.Runs.{HasNoMatch}
+use Rattle.rsc_engine.specs.Runs.{HasNoMatchFrom}
 use Rattle.rsc_engine.specs.Preferred.{HasNoFirstMatch, MayBegin}
 use Rattle.rsc_engine.specs.Ends.{IsLeftmostEnd}
 use Rattle.rsc_engine.specs.DecidesLayout.{unseen, Decides, IsLastPlace}
@@ -175,7 +175,7 @@ going-first e begins list free anchored is = go begins refl
     none past at may = absurd (omega (arith, may.start, may.end, past))
 
     first : e.start ≤ e.end
-        → Decides e e.start unseen (IsLastPlace e) ((at : ℕ) → e.start ≤ at → at < e.start + 1 → HasNoMatch e at) (e.start_state ∷ [])
+        → Decides e e.start unseen (IsLastPlace e) ((at : ℕ) → e.start ≤ at → at < e.start + 1 → HasNoMatchFrom e at) (e.start_state ∷ [])
     first within = decides-start e e.start (record { start = omega arith; end = within; anchored = λ _. refl }) (λ at low l. absurd (omega (arith, low, l)))
 
     go : (b : Bool) → begins ≡ b → IsGoing e e.start begins None list

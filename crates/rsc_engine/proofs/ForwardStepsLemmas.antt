@@ -7,7 +7,7 @@ use Rattle.rsc_nfa.specs.declared.state.State.TheVariants.{ByteRange, Assert, Fo
 use Rattle.rsc_nfa.specs.Steps.{place, IsRun, StepsTo}
 use Rattle.rsc_engine.specs.Searches.{Search}
 use Rattle.rsc_engine.specs.Runs.{Leads, IsPlace, accepts, IsMatchRun}
-use Rattle.rsc_engine.specs.Preferred.{IsOnce, IsPreferredTo}
+use Rattle.rsc_engine.specs.Preferred.{HasNoPlaceTwice, IsPreferredTo}
 use Rattle.rsc_engine.specs.DecidesLayout.{last_of, Avoids, IsUnseenMatch, IsHopeless, IsBest, IsMore, unseen}
 
 -- ---- small facts
@@ -69,7 +69,7 @@ match-before e p q run there leads m = record {
   ends = subst (λ (r : ℕ × ℕ). accepts e r ≡ true) (sym (last-before p run m.some)) m.ends;
 }
 
-pub once-before : (p : ℕ × ℕ) (run : List (ℕ × ℕ)) → IsOnce run → ((k : ℕ) → k < length run → place run k ≢ p) → IsOnce (p ∷ run)
+pub once-before : (p : ℕ × ℕ) (run : List (ℕ × ℕ)) → HasNoPlaceTwice run → ((k : ℕ) → k < length run → place run k ≢ p) → HasNoPlaceTwice (p ∷ run)
 once-before p run once apart zero zero l h = absurd (omega (arith, l))
 once-before p run once apart zero (suc k) l h = λ same. apart k (omega (arith, h)) (sym same)
 once-before p run once apart (suc j) zero l h = absurd (omega (arith, l))
@@ -109,7 +109,7 @@ match-drop e from run n m l = record {
       rw (get_or-drop n run (length (drop n run) - 1) (0, 0), same) m.ends;
 }
 
-pub once-drop : (run : List (ℕ × ℕ)) (n : ℕ) → IsOnce run → IsOnce (drop n run)
+pub once-drop : (run : List (ℕ × ℕ)) (n : ℕ) → HasNoPlaceTwice run → HasNoPlaceTwice (drop n run)
 once-drop run n once j k l h = rw (get_or-drop n run j (0, 0), get_or-drop n run k (0, 0))
     (once (n + j) (n + k) (omega (arith, l)) (omega (arith, h, length-drop n run)))
 
@@ -176,10 +176,10 @@ best-less e i seen after s t run g none b = record {
 
 -- the best run from where a step leads, with the place before it, is the best from there, if what a fork prefers is barred
 pub best-step : (e : Search) (i : ℕ) (seen : ℕ → Bool) (s j : ℕ) (after : ℕ → Bool) (t : ℕ) (run : List (ℕ × ℕ))
-    → IsUnseenMatch e i seen s ((s, i) ∷ run) → IsOnce ((s, i) ∷ run)
-    → ((other : List (ℕ × ℕ)) → IsUnseenMatch e i seen s other → IsOnce other → 1 < length other → place other 1 ≡ (t, j)
+    → IsUnseenMatch e i seen s ((s, i) ∷ run) → HasNoPlaceTwice ((s, i) ∷ run)
+    → ((other : List (ℕ × ℕ)) → IsUnseenMatch e i seen s other → HasNoPlaceTwice other → 1 < length other → place other 1 ≡ (t, j)
     → IsUnseenMatch e j after t (drop 1 other))
-    → ((other : List (ℕ × ℕ)) (a b : ℕ) → IsUnseenMatch e i seen s other → IsOnce other → 1 < length other
+    → ((other : List (ℕ × ℕ)) (a b : ℕ) → IsUnseenMatch e i seen s other → HasNoPlaceTwice other → 1 < length other
     → slice_get e.states s ≡ Some (Fork a b)
     → (place other 1).0 ≡ a → ¬ (t ≡ a) → ⊥)
     → IsBest e j after t run → IsBest e i seen s ((s, i) ∷ run)
@@ -192,7 +192,7 @@ best-step e i seen s j after t run front once tail barred best = record {
     here : place run 0 ≡ (t, j)
     here = best.is_unseen.is_match.begins
 
-    first : (other : List (ℕ × ℕ)) → IsUnseenMatch e i seen s other → IsOnce other → ¬ (IsPreferredTo e other ((s, i) ∷ run))
+    first : (other : List (ℕ × ℕ)) → IsUnseenMatch e i seen s other → HasNoPlaceTwice other → ¬ (IsPreferredTo e other ((s, i) ∷ run))
     first other m one b = ⊎_elim
         (λ (up : 0 < b.at).
         let second : place other 1 ≡ (t, j) = b.together 1 (omega (arith, up)) ∙ here in
@@ -227,7 +227,7 @@ apart-after e i seen after s t run g m k l same =
 
 pub unseen-tail : (e : Search) (i : ℕ) (seen after : ℕ → Bool) (s t : ℕ) (other : List (ℕ × ℕ)) → IsMore seen s after
     → IsUnseenMatch e i seen s other
-    → IsOnce other → 1 < length other → place other 1 ≡ (t, i) → IsUnseenMatch e i after t (drop 1 other)
+    → HasNoPlaceTwice other → 1 < length other → place other 1 ≡ (t, i) → IsUnseenMatch e i after t (drop 1 other)
 unseen-tail e i seen after s t other g m once more second = record {
   is_match = subst (λ (q : ℕ × ℕ). IsMatchRun e q (drop 1 other)) second (match-drop e (s, i) other 1 m.is_match more);
   avoids = avoids;

@@ -27,7 +27,7 @@ RecordsEnds-built chars program patterns r ways same = record {
   end = λ input run found m f. (ends input run found m f).1;
   others = λ input run found slot m f l first second.
       let its = (r.exactly input found).0 (record { run = run; is_match = m; makes = f }) in
-      let w = ways.way input run found its.pattern m f its.its in
+      let w = ways.way input run found its.pattern m f its.is_pattern in
       w.2 slot
       ∙ whole-others
       (subject_of (search_in chars program input)) program.automaton.groups found.pattern its.pattern found.span.start found.span.end slot w.0 l
@@ -40,8 +40,8 @@ RecordsEnds-built chars program patterns r ways same = record {
         × (recorded program.automaton.states run (2 * found.pattern + 1) ≡ Some found.span.end)
     ends input run found m f =
         let its = (r.exactly input found).0 (record { run = run; is_match = m; makes = f }) in
-        let w = ways.way input run found its.pattern m f its.its in
-        let there = slice_get_within patterns found.pattern its.pattern its.its in
+        let w = ways.way input run found its.pattern m f its.is_pattern in
+        let there = slice_get_within patterns found.pattern its.pattern its.is_pattern in
         let both = whole-records (subject_of (search_in chars program input)) program.automaton.groups found.pattern its.pattern found.span.start
         found.span.end w.0 (omega (arith, there, same)) w.1 in
         (w.2 (2 * found.pattern) ∙ both.0, w.2 (2 * found.pattern + 1) ∙ both.1)

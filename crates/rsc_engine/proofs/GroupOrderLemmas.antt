@@ -8,7 +8,7 @@ use Rattle.rsc_nfa.specs.Steps.{place, recorded}
 use Rattle.rsc_search.specs.Inputs.{InputParts}
 use Rattle.rsc_search.specs.declared.span.Span.{Span}
 use Rattle.rsc_search.specs.Matches.{Matched}
-use Rattle.rsc_search.specs.Modes.{pattern_of_mode}
+use Rattle.rsc_search.specs.Modes.{only_pattern}
 use Rattle.rsc_captures.specs.Groups.{GroupLists, group_count, slot_number, slot_of, explicit_before}
 use Rattle.rsc_captures.specs.Captured.{Captured, span_at, first_slot, group_span}
 use Rattle.rsc_engine.specs.Searches.{Search, Compiled, search_in}
@@ -16,7 +16,7 @@ use Rattle.rsc_engine.specs.Runs.{IsMatchRun, IsMatchOf}
 use Rattle.rsc_engine.specs.Preferred.{IsMatchWithRecords}
 use Rattle.rsc_engine.specs.Patterns.{Pattern, Empty, Never, Class, Literal, Assertion, Then, Either, Repeat, Group, Subject, subject_of, Recognizes}
 use Rattle.rsc_engine.specs.Ways.{Point, last_in, with_record, TimesWith, GoesWith}
-use Rattle.rsc_engine.specs.GroupNumbers.{count_groups, numbered}
+use Rattle.rsc_engine.specs.GroupNumbers.{group_count_in, numbered}
 use Rattle.rsc_engine.specs.PatternOrder.{RecordsWays}
 use Rattle.rsc_engine.specs.GroupOrder.{ClosesGroups}
 use Rattle.rsc_engine.proofs.LawsLemmas.{accepted}
@@ -88,10 +88,10 @@ closed-along f even x (Class ranges) n Opens m k c g = closed-later Opens m k g.
 closed-along f even x (Literal bytes) n Opens m k c g = closed-later Opens m k g.1 (goes-forward x (Literal bytes) m.0 k.0 g.0) c
 closed-along f even x (Assertion look) n Opens m k c g = closed-later Opens m k g.1 (goes-forward x (Assertion look) m.0 k.0 g.0) c
 closed-along f even x (Then a b) n Opens m k c g =
-    closed-along f even x b (n + count_groups a) Opens g.0 k (closed-along f even x a n Opens m g.0 c g.1) g.2
+    closed-along f even x b (n + group_count_in a) Opens g.0 k (closed-along f even x a n Opens m g.0 c g.1) g.2
 closed-along f even x (Either a b) n Opens m k c g = ⊎_elim
     (λ (w : GoesWith x (numbered f n a) m k). closed-along f even x a n Opens m k c w)
-    (λ (w : GoesWith x (numbered f (n + count_groups a) b) m k). closed-along f even x b (n + count_groups a) Opens m k c w)
+    (λ (w : GoesWith x (numbered f (n + group_count_in a) b) m k). closed-along f even x b (n + group_count_in a) Opens m k c w)
     g
 closed-along f even x (Repeat min max greedy a) n Opens m k c g =
     times-closed Opens (GoesWith x (numbered f n a)) (closed-along f even x a n Opens) g.0 m k c g.3
@@ -120,11 +120,11 @@ ClosesGroups-built chars program patterns r ways = record { closed = each }
         → (j : ℕ) × (recorded program.automaton.states run (2 * pair + 1) ≡ Some j) × (i ≤ j)
     each input run at pair i m is =
         let e = search_in chars program input in
-        let q = accepted (pattern_of_mode e.mode) (slice_get e.states (place run (length run - 1)).0) m.ends in
+        let q = accepted (only_pattern e.mode) (slice_get e.states (place run (length run - 1)).0) m.ends in
         let found : Matched = record { pattern = q.0; span = record { start = at; end = (place run (length run - 1)).1 } } in
         let makes : IsMatchOf e run found = record { pattern = q.1; start = sym (ap (λ (p : ℕ × ℕ). p.1) m.begins); end = refl } in
         let its = (r.exactly input found).0 (record { run = run; is_match = m; makes = makes }) in
-        let w = ways.way input run found its.pattern m makes its.its in
+        let w = ways.way input run found its.pattern m makes its.is_pattern in
         let all = closed-along (slot_number program.automaton.groups q.0) (even_slots program.automaton.groups q.0) (subject_of e) (Group 0 its.pattern) 0
         (λ p. ⊥) (at, []) (found.span.end, w.0)
         (record { before = λ slot j h. absurd (none_there j h); closed = λ other j none h. absurd (none_there j h) }) w.1 in

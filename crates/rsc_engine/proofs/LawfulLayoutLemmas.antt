@@ -7,12 +7,12 @@ use Rattle.rsc_alphabet.specs.Partitions.{class_map}
 use Rattle.rsc_alphabet.specs.PartitionsLaws.{class_map-together}
 use Rattle.rsc_look.specs.declared.assertion.Look.{Look}
 use Rattle.rsc_look.specs.declared.assertion.Look.TheVariants.{Start, End, StartLF, EndLF, StartCRLF, EndCRLF, WordAscii, WordAsciiNegate, WordUnicode, WordUnicodeNegate, WordStartAscii, WordEndAscii, WordStartUnicode, WordEndUnicode, WordStartHalfAscii, WordEndHalfAscii, WordStartHalfUnicode, WordEndHalfUnicode}
-use Rattle.rsc_look.specs.Looks.{is_unicode, ascii_of}
+use Rattle.rsc_look.specs.Looks.{is_unicode, ascii_counterpart}
 use Rattle.rsc_look.specs.LookSets.{Looks}
 use Rattle.rsc_look.specs.Holds.{Holds, HoldsAtSides, holds_at_bytes, byte_before, byte_after}
 use Rattle.rsc_nfa.specs.declared.state.State.{State}
 use Rattle.rsc_nfa.specs.declared.state.State.TheVariants.{ByteRange, Assert, Fork, Capture, Accept}
-use Rattle.rsc_nfa.specs.Classes.{has_unicode, AreInterchangedBy}
+use Rattle.rsc_nfa.specs.Classes.{has_unicode_assertion, AreInterchangedBy}
 use Rattle.rsc_nfa.specs.Steps.{IsStep, StepsTo}
 use Rattle.rsc_engine.specs.Searches.{Search}
 use Rattle.rsc_engine.specs.LawfulLayout.{Lawful}
@@ -145,25 +145,25 @@ Holds-plain l t chars h k i j plain before after x =
     subst (λ (p : Option ℕ). IsTrue (holds_at_bytes l t p (byte_after k j))) before
     (subst (λ (n : Option ℕ). IsTrue (holds_at_bytes l t (byte_before h i) n)) after y)) x
 
-ascii_of-bytes : (l : Look) → is_unicode (ascii_of l) ≡ false
-ascii_of-bytes Start = refl
-ascii_of-bytes End = refl
-ascii_of-bytes StartLF = refl
-ascii_of-bytes EndLF = refl
-ascii_of-bytes StartCRLF = refl
-ascii_of-bytes EndCRLF = refl
-ascii_of-bytes WordAscii = refl
-ascii_of-bytes WordAsciiNegate = refl
-ascii_of-bytes WordUnicode = refl
-ascii_of-bytes WordUnicodeNegate = refl
-ascii_of-bytes WordStartAscii = refl
-ascii_of-bytes WordEndAscii = refl
-ascii_of-bytes WordStartUnicode = refl
-ascii_of-bytes WordEndUnicode = refl
-ascii_of-bytes WordStartHalfAscii = refl
-ascii_of-bytes WordEndHalfAscii = refl
-ascii_of-bytes WordStartHalfUnicode = refl
-ascii_of-bytes WordEndHalfUnicode = refl
+ascii_counterpart-bytes : (l : Look) → is_unicode (ascii_counterpart l) ≡ false
+ascii_counterpart-bytes Start = refl
+ascii_counterpart-bytes End = refl
+ascii_counterpart-bytes StartLF = refl
+ascii_counterpart-bytes EndLF = refl
+ascii_counterpart-bytes StartCRLF = refl
+ascii_counterpart-bytes EndCRLF = refl
+ascii_counterpart-bytes WordAscii = refl
+ascii_counterpart-bytes WordAsciiNegate = refl
+ascii_counterpart-bytes WordUnicode = refl
+ascii_counterpart-bytes WordUnicodeNegate = refl
+ascii_counterpart-bytes WordStartAscii = refl
+ascii_counterpart-bytes WordEndAscii = refl
+ascii_counterpart-bytes WordStartUnicode = refl
+ascii_counterpart-bytes WordEndUnicode = refl
+ascii_counterpart-bytes WordStartHalfAscii = refl
+ascii_counterpart-bytes WordEndHalfAscii = refl
+ascii_counterpart-bytes WordStartHalfUnicode = refl
+ascii_counterpart-bytes WordEndHalfUnicode = refl
 
 -- with no byte, between two haystacks in which an assertion that holds in the first holds in the second
 StepsTo-stay : (state : State) (t : ℕ) (chars : ℕ → Bool) (h k : List ℕ) (end last i j u : ℕ)
@@ -192,18 +192,18 @@ module _ (w : Lawful) (classes : List ℕ) (m : Machine) (width : ℕ) (unicode 
       → byte_after h i ≡ byte_after k j
       → IsPlainUnit m (byte_before h i) → IsPlainUnit m (byte_after h i)
       → IsStep m.states m.terminator m.word_chars h end (s, i) (u, i) → IsStep m.states m.terminator m.word_chars k last (s, j) (u, j)
-  stays h k end last i j s u low within before after a b x = go (has_unicode m.states) refl
+  stays h k end last i j s u low within before after a b x = go (has_unicode_assertion m.states) refl
     where
-      go : (c : Bool) → has_unicode m.states ≡ c → IsStep m.states m.terminator m.word_chars k last (s, j) (u, j)
+      go : (c : Bool) → has_unicode_assertion m.states ≡ c → IsStep m.states m.terminator m.word_chars k last (s, j) (u, j)
       go false q = w.stays m.states m.terminator m.word_chars h k end last i j s u q before after x
       go true q = IsStep-stay m.states m.terminator m.word_chars h k end last i j s u (λ l holds.
           (w.ascii l m.terminator m.word_chars k j within plan.agreed (subst (λ (o : Option ℕ). IfSome o (λ b. b < 128)) before (a q))
           (subst (λ (o : Option ℕ). IfSome o (λ b. b < 128)) after (b q))).1
-          (Holds-plain (ascii_of l) m.terminator m.word_chars h k i j (ascii_of-bytes l) before after
+          (Holds-plain (ascii_counterpart l) m.terminator m.word_chars h k i j (ascii_counterpart-bytes l) before after
           ((w.ascii l m.terminator m.word_chars h i low plan.agreed (a q) (b q)).0 holds))) x
 
   alike : (p q n o : Option ℕ) → Alike classes p q → Alike classes n o → IsPlainUnit m p → IsPlainUnit m q → IsPlainUnit m n → IsPlainUnit m o
-      → AreInterchangedBy classes (has_unicode m.states) (around p n) (around q o)
+      → AreInterchangedBy classes (has_unicode_assertion m.states) (around p n) (around q o)
   alike p q n o a b pp pq pn po =
       let same = interchanged classes p q n o a b in record {
         first = same.first;

@@ -7,13 +7,13 @@ use Rattle.rsc_nfa.specs.declared.state.State.TheVariants.{ByteRange, Assert, Fo
 use Rattle.rsc_nfa.specs.Steps.{place}
 use Rattle.rsc_engine.specs.Patterns.{Pattern, subject_of, may_be_empty, IsMatchIn, HasRunOf}
 use Rattle.rsc_search.specs.Matches.{Matched}
-use Rattle.rsc_search.specs.Modes.{pattern_of_mode}
+use Rattle.rsc_search.specs.Modes.{only_pattern}
 use Rattle.rsc_search.specs.declared.anchored.Anchored.TheVariants.{No}
 use Rattle.rsc_engine.specs.Searches.{Search}
 use Rattle.rsc_engine.specs.Runs.{IsMatchRun, is_accepting}
 use Rattle.rsc_captures.specs.Captured.{Captured}
 use Rattle.rsc_engine.specs.Preferred.{IsFirstMatch, MayBegin, HasNoFirstMatch}
-use Rattle.rsc_engine.specs.NextMatches.{MayBeNext, IsEmpty, IsRepeatAt, IsSplitAt, IsLeftOutAt, IsOver, IsNextMatch}
+use Rattle.rsc_engine.specs.NextMatches.{MayBeNext, IsEmpty, IsRepeatAt, SplitsAt, IsLeftOutAt, IsOver, IsNextMatch}
 use Rattle.rsc_engine.specs.Ends.{IsMatchEnd, IsEarliestEnd}
 use Rattle.rsc_engine.proofs.PatternsLemmas.{goes-forward, goes-takes, takes-at}
 
@@ -52,7 +52,7 @@ next_is_in e patterns last captures found both f = (both found).0 (record {
 
 pub why_passed : (e : Search) (patterns : List Pattern) (last : Option ℕ) (other : Matched)
     → ((other : Matched) → HasRunOf e other ↔ IsMatchIn patterns e other) → IsLeftOutAt e last other.span.start → IsMatchIn patterns e other
-    → IsRepeatAt e last other.span.start ⊎ IsSplitAt e other.span.start
+    → IsRepeatAt e last other.span.start ⊎ SplitsAt e other.span.start
 why_passed e patterns last other both passed m =
     let r = (both other).1 m in
     ⊎_elim (λ none. absurd (none r.run r.is_match)) (λ why. why) passed
@@ -73,7 +73,7 @@ pub end_is_in : (e : Search) (patterns : List Pattern) (i : ℕ) → ((other : M
     → (x : IsMatchEnd e i)
     → (found : Matched) × IsMatchIn patterns e found × MayBegin e found.span.start × (found.span.end ≡ i) × (found.span.start ≡ x.from)
 end_is_in e patterns i both x =
-    let q = accepted (pattern_of_mode e.mode) (slice_get e.states (place x.run (length x.run - 1)).0) x.is_match.ends in
+    let q = accepted (only_pattern e.mode) (slice_get e.states (place x.run (length x.run - 1)).0) x.is_match.ends in
     let found : Matched = record { pattern = q.0; span = record { start = x.from; end = i } } in (
       found,
       (both found).0 (record {
@@ -101,10 +101,10 @@ not_empty : (e : Search) (patterns : List Pattern) (at : ℕ) (run : List (ℕ �
     → list_any may_be_empty patterns ≡ false → IsMatchRun e (e.start_state, at) run → IsEmpty run → ⊥
 not_empty e patterns at run both none m empty =
     let begins : (place run 0).1 ≡ at = ap (λ (p : ℕ × ℕ). p.1) m.begins in
-    let q = accepted (pattern_of_mode e.mode) (slice_get e.states (place run (length run - 1)).0) m.ends in
+    let q = accepted (only_pattern e.mode) (slice_get e.states (place run (length run - 1)).0) m.ends in
     let found : Matched = record { pattern = q.0; span = record { start = at; end = (place run (length run - 1)).1 } } in
     let r = (both found).0 (record { run = run; is_match = m; makes = record { pattern = q.1; start = sym begins; end = refl } }) in
-    let takes = goes-takes (subject_of e) r.pattern at (place run (length run - 1)).1 (takes-at patterns q.0 r.pattern none r.its) r.goes in
+    let takes = goes-takes (subject_of e) r.pattern at (place run (length run - 1)).1 (takes-at patterns q.0 r.pattern none r.is_pattern) r.goes in
     omega (arith, takes, begins, empty)
 
 pub next_at_start : (e : Search) (patterns : List Pattern) (last : Option ℕ) (captures : Captured) (found : Matched)
@@ -126,7 +126,7 @@ not_passed e patterns last other both none passed m = ⊎_elim
     (λ no. let r = (both other).1 m in no r.run r.is_match)
     (λ why. ⊎_elim
     (λ (x : IsRepeatAt e last other.span.start). not_empty e patterns other.span.start x.run both none x.preferred.is_match x.repeats.empty)
-    (λ (x : IsSplitAt e other.span.start). not_empty e patterns other.span.start x.run both none x.preferred.is_match x.splits.empty)
+    (λ (x : SplitsAt e other.span.start). not_empty e patterns other.span.start x.run both none x.preferred.is_match x.splits.empty)
     why)
     passed
 

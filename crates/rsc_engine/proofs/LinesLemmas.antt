@@ -7,7 +7,7 @@ use Rattle.rsc_search.specs.declared.anchored.Anchored.TheVariants.{No}
 use Rattle.rsc_engine.specs.Searches.{Search}
 use Rattle.rsc_engine.specs.Preferred.{HasNoFirstMatch}
 use Rattle.rsc_engine.specs.Ends.{IsMatchEnd}
-use Rattle.rsc_engine.specs.Lines.{BeginsLine, IsLine, NoLine}
+use Rattle.rsc_engine.specs.Lines.{BeginsLine, IsLine, NoSuchLine}
 use Rattle.rsc_engine.specs.LinesLayout.{IsCandidate, EndsFrom}
 use Rattle.rsc_engine.proofs.RunsLemmas.{match-wider}
 
@@ -41,16 +41,16 @@ in-line h line other is its low high = ⊎_elim
 
 -- ---- of which lines none is such a one
 
-pub none-joined : (h : List ℕ) (IsSuch : Span → Type 0) (a b c : ℕ) → NoLine h IsSuch a b → NoLine h IsSuch b c → NoLine h IsSuch a c
+pub none-joined : (h : List ℕ) (IsSuch : Span → Type 0) (a b c : ℕ) → NoSuchLine h IsSuch a b → NoSuchLine h IsSuch b c → NoSuchLine h IsSuch a c
 none-joined h IsSuch a b c one other line is low high = ⊎_elim
     (λ (l : line.start < b). one line is low l)
     (λ (g : b ≤ line.start). other line is g high)
     (cases_lt line.start b)
 
 -- a line that isn't, with those before it
-pub none-past : (h : List ℕ) (IsSuch : Span → Type 0) (a at : ℕ) (line : Span) → NoLine h IsSuch a at → IsCandidate h IsSuch at line
+pub none-past : (h : List ℕ) (IsSuch : Span → Type 0) (a at : ℕ) (line : Span) → NoSuchLine h IsSuch a at → IsCandidate h IsSuch at line
     → ¬ (IsSuch line)
-    → NoLine h IsSuch a (line.end + 1)
+    → NoSuchLine h IsSuch a (line.end + 1)
 none-past h IsSuch a at line before c is_none = none-joined h IsSuch a at (line.end + 1) before
     (none-joined h IsSuch at line.start (line.end + 1) c.none_before
     (λ other its low high is_such. is_none (subst IsSuch (sym (in-line h line other c.is_line its low high)) is_such)))
@@ -86,7 +86,7 @@ HasMatchOf e line = ¬ (HasNoFirstMatch (record e { start = line.start; end = li
 
 -- no line before the one with a position has a match, if no match ends before the position
 none-before-end : (e : Search) (i at : ℕ) → e.mode ≡ No → e.end ≡ length e.haystack → EndsFrom e i → at ≤ i → BeginsLine e.haystack at
-    → NoLine e.haystack (HasMatchOf e) e.start at
+    → NoSuchLine e.haystack (HasMatchOf e) e.start at
 none-before-end e i at free whole none low begins line is from before some =
     some (none-in-part e line.start line.end from (omega (arith, is.within, whole)) free
     (λ j l. none.none_before j (omega (arith, l, low, ends-before e.haystack line at is begins before))))
@@ -103,12 +103,12 @@ candidate-around e i (Some line) free whole none is there = record {
 
 pub none-around : (e : Search) (i : ℕ) (found : Option Span) → e.mode ≡ No → e.end ≡ length e.haystack → EndsFrom e i
     → IfNone found (BeginsLine e.haystack (length e.haystack) × (length e.haystack ≤ i))
-    → IfNone found (NoLine e.haystack (HasMatchOf e) e.start (length e.haystack))
+    → IfNone found (NoSuchLine e.haystack (HasMatchOf e) e.start (length e.haystack))
 none-around e i None free whole none after = none-before-end e i (length e.haystack) free whole none after.1 after.0
 none-around e i (Some line) free whole none after = tt
 
 -- no line from the search's start on has a match, if the search has none
 pub none-of-search : (e : Search) (to : ℕ) → e.mode ≡ No → e.end ≡ length e.haystack → HasNoFirstMatch e
-    → NoLine e.haystack (HasMatchOf e) e.start to
+    → NoSuchLine e.haystack (HasMatchOf e) e.start to
 none-of-search e to free whole none line is from before some =
     some (none-in-part e line.start line.end from (omega (arith, is.within, whole)) free (λ j l x. none x.from x.begins x.run x.is_match))

@@ -6,7 +6,7 @@ use Rattle.rsc_engine.specs.Patterns.{Pattern, Then, Repeat, may_be_empty}
 use Rattle.rsc_engine.specs.EnclosesLayout.{Encloses}
 use Rattle.rsc_engine.specs.StatesLayout.{asked_by, FitsAndAsks}
 use Rattle.rsc_engine.proofs.StatesLayoutLemmas.{FitsAndAsks-choice, FitsAndAsks-loop, FitsAndAsks-alike, optional-same, optional-back, up_to-same, counted-same}
-use Rattle.rsc_engine.specs.GroupNumbers.{count_groups, numbered}
+use Rattle.rsc_engine.specs.GroupNumbers.{group_count_in, numbered}
 use Rattle.rsc_engine.proofs.GroupNumbersLemmas.{numbered-empty}
 use Rattle.rsc_engine.specs.LinksLayout.{Adds, Builds, BuildsPart, BuildsCopies, IsAdded, Realizes, choice_of, copies, optional, up_to}
 use Rattle.rsc_engine.proofs.LinksLayoutLemmas.{Realizes-choice, Realizes-star, Realizes-plus, is_choice}
@@ -178,7 +178,7 @@ pub BuildsCopies-more : (slot_of : ℕ → ℕ)
 BuildsCopies-more slot_of slots left mid now old middle new first between next count p x y = (
   λ l. y.0,
   λ n e. Builds-then slots old middle new first between next (numbered slot_of n p) (copies count (numbered slot_of n p)) (x.1 n e)
-      (subst (λ (k : ℕ). Builds slots middle new first between (numbered slot_of k p)) (same_number left now n (count_groups p) y.0 e) y.1),
+      (subst (λ (k : ℕ). Builds slots middle new first between (numbered slot_of k p)) (same_number left now n (group_count_in p) y.0 e) y.1),
   omega (arith, x.2, y.2),
 )
 
@@ -192,7 +192,7 @@ BuildsCopies-up_to_more slot_of slots left mid now old middle last new one betwe
   λ l. y.0,
   λ n e. Builds-optional slots old last new one id next greedy (Then (numbered slot_of n p) (up_to greedy count (numbered slot_of n p)))
       (Builds-then slots old middle last one between next (numbered slot_of n p) (up_to greedy count (numbered slot_of n p)) (x.1 n e)
-      (subst (λ (k : ℕ). Builds slots middle last one between (numbered slot_of k p)) (same_number left now n (count_groups p) y.0 e) y.1))
+      (subst (λ (k : ℕ). Builds slots middle last one between (numbered slot_of k p)) (same_number left now n (group_count_in p) y.0 e) y.1))
       a,
   omega (arith, x.2, y.2, a.one, optional-size greedy (Then p (up_to greedy count p))),
 )
@@ -238,7 +238,7 @@ BuildsPart-unlimited slot_of slots left mid now old middle new min last first ne
       its,
       Builds-unlimited slots old middle new min last first next greedy (numbered slot_of now p) more
           (subst (λ (k : ℕ). Builds slots old middle last next (Repeat 1 None greedy (numbered slot_of k p)))
-          (same_number left mid now (count_groups p) x.0 its) x.1)
+          (same_number left mid now (group_count_in p) x.0 its) x.1)
           (y.1 now its),
       omega (arith, x.2, y.2, unlimited-size (min - 1) min greedy p (omega (arith, more))),
     )
@@ -264,7 +264,7 @@ BuildsPart-up_to slot_of slots left now old new min max first next greedy p none
     (its, Builds-up_to slots old new first next max greedy (numbered slot_of now p) (x.1 now its), omega (arith, x.2, up_to_only-size max greedy p))
 
 pub BuildsPart-no_times : (slot_of : ℕ → ℕ) (slots : ℕ × ℕ) (left now : ℕ) (states : List State) (next : ℕ) (greedy : Bool) (p : Pattern)
-    → left ≡ now + count_groups p → BuildsPart slot_of slots left now states states next next (Repeat 0 (Some 0) greedy p)
+    → left ≡ now + group_count_in p → BuildsPart slot_of slots left now states states next next (Repeat 0 (Some 0) greedy p)
 BuildsPart-no_times slot_of slots left now states next greedy p its = (
   its,
   Builds-up_to slots states states next next 0 greedy (numbered slot_of now p) (Builds-empty slots states next),

@@ -2,12 +2,12 @@
 use Rattle.std.proofs.Common.{◌≡◌, ℕ, zero, suc, ◌+◌, ◌-◌, ◌<◌, ◌≤◌, ⊎_elim, Bool, true, false, ◌&&◌, length, slice_get, slice_index, Option, Some, None, MatchOption, IsTrue, refl, sym, arith, true≢false, nat_le, nat_lt}
 use Rattle.std.proofs.lemmas.Bool.{lt-ltb, ltb-true, leb-true}
 use Rattle.std.proofs.lemmas.Option.{get_or_from_slice_get}
-use Rattle.rsc_search.specs.Modes.{pattern_of_mode}
+use Rattle.rsc_search.specs.Modes.{only_pattern}
 use Rattle.rsc_nfa.specs.declared.state.State.{State}
 use Rattle.rsc_nfa.specs.declared.state.State.TheVariants.{ByteRange, Assert, Fork, Capture, Accept}
 use Rattle.rsc_nfa.specs.Steps.{StepsTo, place, is_between}
 use Rattle.rsc_engine.specs.Searches.{Search}
-use Rattle.rsc_engine.specs.Runs.{Leads, is_accepting, HasNoMatch}
+use Rattle.rsc_engine.specs.Runs.{Leads, is_accepting, HasNoMatchFrom}
 use Rattle.rsc_engine.specs.Preferred.{HasNoFirstMatch}
 use Rattle.rsc_engine.specs.RowsLayout.{machine_of, IsMarked}
 use Rattle.rsc_engine.specs.NeededLayout.{is_in, HasNoPair, mark_of, NeedsPair}
@@ -52,7 +52,7 @@ module _ (e : Search) (a b : ℕ × ℕ) (needed : NeedsPair (machine_of e) a b)
       go (Some (Accept p)) is l = absurd l
 
   -- no match begins
-  none_begins : (at : ℕ) → HasNoMatch e at
+  none_begins : (at : ℕ) → HasNoMatchFrom e at
   none_begins at run m = go (slice_get e.states (place run last).0) refl m.ends
     where
       last : ℕ
@@ -69,7 +69,7 @@ module _ (e : Search) (a b : ℕ × ℕ) (needed : NeedsPair (machine_of e) a b)
           let there : k < length run = omega (arith, h) in
           rw same (step (place run k) (place run (k + 1)) (m.is_run.places k there).1 (stays k there) (m.is_run.steps k h))
 
-      go : (o : Option State) → slice_get e.states (place run last).0 ≡ o → is_accepting (pattern_of_mode e.mode) o ≡ true → ⊥
+      go : (o : Option State) → slice_get e.states (place run last).0 ≡ o → is_accepting (only_pattern e.mode) o ≡ true → ⊥
       go None is h = true≢false (sym h)
       go (Some (ByteRange low high next)) is h = true≢false (sym h)
       go (Some (Assert look next)) is h = true≢false (sym h)

@@ -11,7 +11,7 @@ use Rattle.rsc_search.specs.declared.anchored.Anchored.TheVariants.{No}
 use Rattle.rsc_engine.specs.Searches.{Search, Compiled, search_in}
 use Rattle.rsc_engine.specs.Runs.{IsMatchOf}
 use Rattle.rsc_engine.specs.Preferred.{IsPreferred, IsLeftmostFirst, HasNoFirstMatch, IsMatchWithRecords}
-use Rattle.rsc_engine.specs.NextMatches.{IsRepeat, IsSplit, IsRepeatAt, IsLeftOutAt, MayBeNext, IsNext, IsOver, from_start, calls_left}
+use Rattle.rsc_engine.specs.NextMatches.{IsRepeat, SplitsCharacter, IsRepeatAt, IsLeftOutAt, MayBeNext, IsNextRun, IsOver, with_start, calls_left}
 use Rattle.rsc_engine.proofs.PreferredLemmas.{is_no, one_preferred, preferred_shift, none_shift}
 
 -- ---- the positions before a search's start
@@ -43,7 +43,7 @@ module _ (e : Search) (i start : ℕ) (last : Option ℕ) (run : List (ℕ × �
   }
 
   -- the leftmost match from i on is the next, unless it's a repeat or splits a character
-  pub next_is : ¬ (IsRepeat last run) → ¬ (IsSplit (record e { start = start }) run) → IsNext (record e { start = start }) last run
+  pub next_is : ¬ (IsRepeat last run) → ¬ (SplitsCharacter (record e { start = start }) run) → IsNextRun (record e { start = start }) last run
   next_is no_repeat no_split = record {
     begins = begins_there;
     preferred = from_there;
@@ -74,7 +74,7 @@ module _ (e : Search) (i start : ℕ) (last : Option ℕ) (run : List (ℕ × �
       repeated = record { run = run; preferred = from_there; repeats = repeats }
 
   -- after a match that splits a character, by one too, if the search isn't anchored
-  pub moved_split : IsSplit (record e { start = start }) run → e.mode ≡ No → IsMoved (record e { start = start }) last ((place run 0).1 + 1)
+  pub moved_split : SplitsCharacter (record e { start = start }) run → e.mode ≡ No → IsMoved (record e { start = start }) last ((place run 0).1 + 1)
   moved_split splits free = record {
     up = omega (arith, v.up, f.begins.start);
     left_out = λ at high o. ⊎_elim
@@ -90,7 +90,7 @@ module _ (e : Search) (i start : ℕ) (last : Option ℕ) (run : List (ℕ × �
   }
 
   -- and if it's anchored, no later position is open
-  pub moved_over : IsSplit (record e { start = start }) run → ¬ (IsRepeat last run) → ¬ (e.mode ≡ No)
+  pub moved_over : SplitsCharacter (record e { start = start }) run → ¬ (IsRepeat last run) → ¬ (e.mode ≡ No)
       → IsMoved (record e { start = start }) last (e.end + 1)
   moved_over splits no_repeat anchored = record {
     up = omega (arith, v.up, f.begins.start, f.begins.end);
@@ -158,7 +158,7 @@ no_repeat_run e last run m ends apart r =
     apart empty (r.there ∙ ap (λ (n : ℕ). Some n) here)
 
 split_run : (e f : Search) (run : List (ℕ × ℕ)) (m : Matched) → IsMatchOf f run m
-    → (e.utf8 ≡ true) × (m.span.start ≡ m.span.end) × (¬ (IsCharBoundary e.haystack m.span.end)) → IsSplit e run
+    → (e.utf8 ≡ true) × (m.span.start ≡ m.span.end) × (¬ (IsCharBoundary e.haystack m.span.end)) → SplitsCharacter e run
 split_run e f run m ends s =
     let here : m.span.end ≡ (place run 0).1 = sym s.1 ∙ ends.start in
     record {
@@ -168,22 +168,22 @@ split_run e f run m ends s =
     }
 
 no_split_run : (e f : Search) (run : List (ℕ × ℕ)) (m : Matched) → IsMatchOf f run m
-    → (e.utf8 ≡ true → m.span.start ≡ m.span.end → IsCharBoundary e.haystack m.span.end) → ¬ (IsSplit e run)
+    → (e.utf8 ≡ true → m.span.start ≡ m.span.end → IsCharBoundary e.haystack m.span.end) → ¬ (SplitsCharacter e run)
 no_split_run e f run m ends whole s =
     let empty : m.span.start ≡ m.span.end = ends.start ∙ s.empty ∙ sym ends.end in
     let here : (place run 0).1 ≡ m.span.end = sym ends.start ∙ empty in
     subst (λ (n : ℕ). ¬ (IsCharBoundary e.haystack n)) here s.within (whole s.utf8 empty)
 
 -- a start is set again
-on_more : (input now next : InputParts) (a b : ℕ) → now ≡ from_start input a → next ≡ from_start now b → next ≡ from_start input next.span.start
+on_more : (input now next : InputParts) (a b : ℕ) → now ≡ with_start input a → next ≡ with_start now b → next ≡ with_start input next.span.start
 on_more input now next a b on at =
-    let there : next ≡ from_start input b = at ∙ ap (λ (x : InputParts). from_start x b) on in
-    there ∙ ap (λ (s : ℕ). from_start input s) (sym (ap (λ (x : InputParts). x.span.start) there))
+    let there : next ≡ with_start input b = at ∙ ap (λ (x : InputParts). with_start x b) on in
+    there ∙ ap (λ (s : ℕ). with_start input s) (sym (ap (λ (x : InputParts). x.span.start) there))
 
 -- what stands in the loop: the program as it was, the input from a later start on, and the positions before passed
 pub record IsTurn {W : Type 0} (chars : W → ℕ → Bool) (p q : Compiled W) (input now : InputParts) (last before : Option ℕ) : Type 0 where
   pub program : q ≡ p
-  pub input_on : now ≡ from_start input now.span.start
+  pub input_on : now ≡ with_start input now.span.start
   pub last_end : before ≡ last
   pub moved : IsMoved (search_in chars p input) last now.span.start
 
@@ -197,18 +197,18 @@ module _ {W : Type 0} (chars : W → ℕ → Bool) (p q : Compiled W) (input now
 
   module _ (run : List (ℕ × ℕ)) (m : Matched) (c : Captured) (first : IsLeftmostFirst (search_in chars q now) run)
       (is_of : IsMatchWithRecords (search_in chars q now) run m c)
-      (mid : InputParts) (after : Compiled W) (ended : Option ℕ) (on : mid ≡ from_start now m.span.end) (kept : after ≡ q) (same : ended ≡ before) where
+      (mid : InputParts) (after : Compiled W) (ended : Option ℕ) (on : mid ≡ with_start now m.span.end) (kept : after ≡ q) (same : ended ≡ before) where
     first_there : IsLeftmostFirst (record (search_in chars p input) { start = now.span.start }) run
     first_there = subst (λ (e : Search). IsLeftmostFirst e run) there first
 
-    same_parts : mid ≡ from_start input mid.span.start
+    same_parts : mid ≡ with_start input mid.span.start
     same_parts = on_more input now mid now.span.start m.span.end t.input_on on
 
     not_again : (m.span.start ≡ m.span.end → ¬ (ended ≡ Some m.span.end)) → ¬ (IsRepeat last run)
     not_again apart = no_repeat_run (search_in chars q now) last run m is_of.ends (λ empty h. apart empty (same ∙ t.last_end ∙ h))
 
     -- the search goes on at b
-    turn_to : (next : InputParts) (b : ℕ) → next ≡ from_start mid b → IsMoved (search_in chars p input) last b
+    turn_to : (next : InputParts) (b : ℕ) → next ≡ with_start mid b → IsMoved (search_in chars p input) last b
         → IsTurn chars p after input next last ended
     turn_to next b at moved = record {
       program = kept ∙ t.program;
@@ -218,14 +218,14 @@ module _ {W : Type 0} (chars : W → ℕ → Bool) (p q : Compiled W) (input now
     }
 
     pub turn_next : (m.span.start ≡ m.span.end → ¬ (ended ≡ Some m.span.end))
-        → (after.utf8 ≡ true → m.span.start ≡ m.span.end → IsCharBoundary mid.haystack m.span.end) → IsNext (search_in chars p input) last run
+        → (after.utf8 ≡ true → m.span.start ≡ m.span.end → IsCharBoundary mid.haystack m.span.end) → IsNextRun (search_in chars p input) last run
     turn_next apart whole =
         next_is (search_in chars p input) now.span.start input.span.start last run t.moved first_there (not_again apart)
         (no_split_run (search_in chars p input) (search_in chars q now) run m is_of.ends
         (λ text empty. subst (λ (x : List ℕ). IsCharBoundary x m.span.end) (ap (λ (x : InputParts). x.haystack) same_parts)
         (whole (ap (λ x. x.utf8) (kept ∙ t.program) ∙ text) empty)))
 
-    pub turn_repeat : (next : InputParts) → (m.span.start ≡ m.span.end) × (ended ≡ Some m.span.end) → next ≡ from_start mid (m.span.end + 1)
+    pub turn_repeat : (next : InputParts) → (m.span.start ≡ m.span.end) × (ended ≡ Some m.span.end) → next ≡ with_start mid (m.span.end + 1)
         → IsTurn chars p after input next last ended
     turn_repeat next r at =
         let here : m.span.end + 1 ≡ (place run 0).1 + 1 = ap (λ (n : ℕ). n + 1) (sym r.0 ∙ is_of.ends.start) in
@@ -235,14 +235,14 @@ module _ {W : Type 0} (chars : W → ℕ → Bool) (p q : Compiled W) (input now
 
     pub turn_split : (next : InputParts) (b : ℕ) → (after.utf8 ≡ true) × (m.span.start ≡ m.span.end) × (¬ (IsCharBoundary mid.haystack m.span.end))
         → (m.span.start ≡ m.span.end → ¬ (ended ≡ Some m.span.end))
-        → (¬ (mid.anchored ≡ No) → b ≡ mid.span.end + 1) → (mid.anchored ≡ No → b ≡ m.span.end + 1) → next ≡ from_start mid b
+        → (¬ (mid.anchored ≡ No) → b ≡ mid.span.end + 1) → (mid.anchored ≡ No → b ≡ m.span.end + 1) → next ≡ with_start mid b
         → IsTurn chars p after input next last ended
     turn_split next b s apart anchored free at = turn_to next b at (go (is_no input.anchored))
       where
         mode : mid.anchored ≡ input.anchored
         mode = ap (λ (x : InputParts). x.anchored) same_parts
 
-        splits : IsSplit (search_in chars p input) run
+        splits : SplitsCharacter (search_in chars p input) run
         splits = split_run (search_in chars p input) (search_in chars q now) run m is_of.ends (
           sym (ap (λ x. x.utf8) (kept ∙ t.program)) ∙ s.0,
           s.1,
@@ -260,16 +260,16 @@ module _ {W : Type 0} (chars : W → ℕ → Bool) (p q : Compiled W) (input now
 -- ---- there is one next match
 
 -- the next match is not passed
-next_not_passed : (e : Search) (last : Option ℕ) (run : List (ℕ × ℕ)) → IsNext e last run → IsLeftOutAt e last (place run 0).1 → ⊥
+next_not_passed : (e : Search) (last : Option ℕ) (run : List (ℕ × ℕ)) → IsNextRun e last run → IsLeftOutAt e last (place run 0).1 → ⊥
 next_not_passed e last run x (inl none) = none run x.preferred.is_match
 next_not_passed e last run x (inr (inl r)) =
     x.no_repeat
     (subst (λ (y : List (ℕ × ℕ)). IsRepeat last y) (one_preferred e (e.start_state, (place run 0).1) r.run run r.preferred x.preferred) r.repeats)
 next_not_passed e last run x (inr (inr s)) =
     x.splits_none
-    (subst (λ (y : List (ℕ × ℕ)). IsSplit e y) (one_preferred e (e.start_state, (place run 0).1) s.run run s.preferred x.preferred) s.splits)
+    (subst (λ (y : List (ℕ × ℕ)). SplitsCharacter e y) (one_preferred e (e.start_state, (place run 0).1) s.run run s.preferred x.preferred) s.splits)
 
-pub next_not_over : (e : Search) (last : Option ℕ) (run : List (ℕ × ℕ)) → IsOver e last → ¬ (IsNext e last run)
+pub next_not_over : (e : Search) (last : Option ℕ) (run : List (ℕ × ℕ)) → IsOver e last → ¬ (IsNextRun e last run)
 next_not_over e last run over x = next_not_passed e last run x (over (place run 0).1 x.begins)
 
 -- two preferred runs that begin at one position are one
@@ -280,7 +280,7 @@ same_start e one other x y same =
     one_preferred e (e.start_state, (place other 0).1) one other (subst (λ (n : ℕ). IsPreferred e (e.start_state, n) one) same x) y
 
 -- there is one next match at most
-pub one_next : (e : Search) (last : Option ℕ) (one other : List (ℕ × ℕ)) → IsNext e last one → IsNext e last other → one ≡ other
+pub one_next : (e : Search) (last : Option ℕ) (one other : List (ℕ × ℕ)) → IsNextRun e last one → IsNextRun e last other → one ≡ other
 one_next e last one other x y = ⊎_elim
     (λ (same : (place one 0).1 ≡ (place other 0).1). same_start e one other x.preferred y.preferred same)
     (λ (h : ((place one 0).1 < (place other 0).1) ⊎ ((place other 0).1 < (place one 0).1)). ⊎_elim

@@ -3,18 +3,18 @@ use Rattle.std.proofs.Common.{◌≡◌, ℕ, zero, suc, ◌≤◌, Bool, refl, 
 use Rattle.rsc_primitives.specs.Decoding.{IsCharBoundary}
 use Rattle.rsc_search.specs.Inputs.{InputParts}
 use Rattle.rsc_search.specs.Matches.{Matched}
-use Rattle.rsc_search.specs.Modes.{pattern_of_mode}
+use Rattle.rsc_search.specs.Modes.{only_pattern}
 use Rattle.rsc_captures.specs.Captured.{Captured}
 use Rattle.rsc_captures.specs.Groups.{Groups, GroupLists}
 use Rattle.rsc_engine.specs.Searches.{Search, Compiled, search_in}
-use Rattle.rsc_engine.specs.Runs.{is_wanted}
+use Rattle.rsc_engine.specs.Runs.{is_allowed}
 use Rattle.rsc_engine.specs.Patterns.{Pattern, Subject, Goes, may_be_empty, IsMatchIn}
 use Rattle.rsc_engine.specs.Preferred.{IsFirstMatch, HasNoFirstMatch}
 use Rattle.rsc_engine.specs.NextMatches.{IsNextMatch, IsOver}
 use Rattle.rsc_engine.specs.GroupNumbers.{as_whole}
 use Rattle.rsc_engine.specs.PreferredWays.{IsPreferredWay}
-use Rattle.rsc_engine.specs.PatternMatches.{NoneGoesOn, IsPreferredOf, HoldRecords, Repeats, Splits, PrefersThere, IsLeftOutOf, IsBuiltOf}
-use Rattle.rsc_engine.specs.OnePattern.{subject_in, IsMatchOfOne, GoesNowhereTo, GoesNowhereIn, IsWayOfOne, StaysAt, IsLeftOutOfOne, IsNextOfOne, IsOverOfOne}
+use Rattle.rsc_engine.specs.PatternMatches.{NoneGoesFrom, IsPreferredOfPatterns, HoldRecords, Repeats, Splits, PrefersThere, IsLeftOutOfPatterns, AnswersAs}
+use Rattle.rsc_engine.specs.OnePattern.{subject_in, IsMatchOfOne, GoesNowhereBefore, GoesNowhereIn, IsWayOfOne, StaysAt, IsLeftOutOfOne, IsNextOfOne, IsOverOfOne}
 use Rattle.rsc_engine.proofs.PatternsLemmas.{goes-takes}
 
 its_only : (p q : Pattern) (n : ℕ) → slice_get (p ∷ []) n ≡ Some q → (n ≡ 0) × (q ≡ p)
@@ -29,17 +29,17 @@ module _ {W : Type 0} (chars : W → ℕ → Bool) (program : Compiled W) (p : P
   x = subject_in chars input.haystack program.automaton.matcher
 
   -- where no pattern goes on, this one goes nowhere
-  none-goes : (i j : ℕ) → is_wanted (pattern_of_mode input.anchored) 0 ≡ true → input.span.start ≤ i → j ≤ input.span.end
-      → NoneGoesOn (p ∷ []) e i
+  none-goes : (i j : ℕ) → is_allowed (only_pattern input.anchored) 0 ≡ true → input.span.start ≤ i → j ≤ input.span.end
+      → NoneGoesFrom (p ∷ []) e i
       → ¬ (Goes x p i j)
   none-goes i j wanted low high none goes = none (record { pattern = 0; span = record { start = i; end = j } }) refl
-      (record { pattern = p; its = refl; wanted = wanted; start = low; end = high; goes = goes })
+      (record { pattern = p; is_pattern = refl; allowed = wanted; start = low; end = high; goes = goes })
 
-  wanted-of : (found : Matched) → IsMatchIn (p ∷ []) e found → is_wanted (pattern_of_mode input.anchored) 0 ≡ true
-  wanted-of found m = subst (λ (n : ℕ). is_wanted (pattern_of_mode input.anchored) n ≡ true) (its_only p m.pattern found.pattern m.its).0 m.wanted
+  wanted-of : (found : Matched) → IsMatchIn (p ∷ []) e found → is_allowed (only_pattern input.anchored) 0 ≡ true
+  wanted-of found m = subst (λ (n : ℕ). is_allowed (only_pattern input.anchored) n ≡ true) (its_only p m.pattern found.pattern m.is_pattern).0 m.allowed
 
   goes-of : (found : Matched) → IsMatchIn (p ∷ []) e found → Goes x p found.span.start found.span.end
-  goes-of found m = subst (λ (q : Pattern). Goes x q found.span.start found.span.end) (its_only p m.pattern found.pattern m.its).1 m.goes
+  goes-of found m = subst (λ (q : Pattern). Goes x q found.span.start found.span.end) (its_only p m.pattern found.pattern m.is_pattern).1 m.goes
 
   -- a pattern that takes bytes isn't preferred where its match is empty
   none-prefers : (at : ℕ) (Such : Matched → Type 0) → may_be_empty p ≡ false
@@ -51,18 +51,18 @@ module _ {W : Type 0} (chars : W → ℕ → Bool) (program : Compiled W) (p : P
     goes-takes x p t.found.span.start t.found.span.end takes (goes-of t.found t.preferred.is_in),
   )
 
-  passed-none : (last : Option ℕ) (at : ℕ) → may_be_empty p ≡ false → IsLeftOutOf (p ∷ []) program.automaton.groups e last at
-      → NoneGoesOn (p ∷ []) e at
+  passed-none : (last : Option ℕ) (at : ℕ) → may_be_empty p ≡ false → IsLeftOutOfPatterns (p ∷ []) program.automaton.groups e last at
+      → NoneGoesFrom (p ∷ []) e at
   passed-none last at takes (inl none) = none
   passed-none last at takes (inr (inl t)) = absurd (none-prefers at (Repeats last) takes (λ found r. r.empty) t)
   passed-none last at takes (inr (inr t)) = absurd (none-prefers at (Splits e) takes (λ found s. s.empty) t)
 
   module _ (groups : Groups) (lists : program.automaton.groups ≡ groups ∷ []) where
-    way-of : (found : Matched) (records : List (ℕ × ℕ)) → IsPreferredOf (p ∷ []) program.automaton.groups e found records
+    way-of : (found : Matched) (records : List (ℕ × ℕ)) → IsPreferredOfPatterns (p ∷ []) program.automaton.groups e found records
         → IsWayOfOne x p groups input.span.end found.span.start found.span.end records
     way-of found records preferred =
         let m = preferred.is_in in
-        let only = its_only p m.pattern found.pattern m.its in
+        let only = its_only p m.pattern found.pattern m.is_pattern in
         let Way : GroupLists → ℕ → Pattern → Type 0 = λ all n q.
         IsPreferredWay x (as_whole all n q) (λ j. j ≤ input.span.end) found.span.start found.span.end records in
         record {
@@ -72,13 +72,13 @@ module _ {W : Type 0} (chars : W → ℕ → Bool) (program : Compiled W) (p : P
               (subst (λ (q : Pattern). Way program.automaton.groups found.pattern q) only.1 preferred.way));
         }
 
-    one-of : (captures : Captured) (found : Matched) (records : List (ℕ × ℕ)) → IsPreferredOf (p ∷ []) program.automaton.groups e found records
+    one-of : (captures : Captured) (found : Matched) (records : List (ℕ × ℕ)) → IsPreferredOfPatterns (p ∷ []) program.automaton.groups e found records
         → HoldRecords captures found records → IsMatchOfOne x p groups input captures found
     one-of captures found records preferred hold =
         let m = preferred.is_in in
         let w = way-of found records preferred in
         record {
-          number = (its_only p m.pattern found.pattern m.its).0;
+          number = (its_only p m.pattern found.pattern m.is_pattern).0;
           start = m.start;
           end = m.end;
           goes = w.goes;
@@ -100,22 +100,22 @@ module _ {W : Type 0} (chars : W → ℕ → Bool) (program : Compiled W) (p : P
     repeats last at t = (stays at (Repeats last) (λ found r. r.empty) t, t.is_such.there ∙ ap (λ (i : ℕ). Some i) t.start)
 
     -- where the only pattern's preferred way is empty, so is the preferred match
-    prefers : (last : Option ℕ) (at : ℕ) → is_wanted (pattern_of_mode input.anchored) 0 ≡ true → input.span.start ≤ at
+    prefers : (last : Option ℕ) (at : ℕ) → is_allowed (only_pattern input.anchored) 0 ≡ true → input.span.start ≤ at
         → StaysAt x p groups input.span.end at × (last ≡ Some at) → PrefersThere (p ∷ []) program.automaton.groups e at (Repeats last)
     prefers last at wanted low (w, there) = record {
       found = record { pattern = 0; span = record { start = at; end = at } };
       records = w.0;
       start = refl;
       preferred = record {
-        is_in = record { pattern = p; its = refl; wanted = wanted; start = low; end = w.1.within; goes = w.1.goes };
+        is_in = record { pattern = p; is_pattern = refl; allowed = wanted; start = low; end = w.1.within; goes = w.1.goes };
         least = λ other m same. omega arith;
         way = subst (λ (all : GroupLists). IsPreferredWay x (as_whole all 0 p) (λ j. j ≤ input.span.end) at at w.0) (sym lists) w.1.way;
       };
       is_such = record { empty = refl; there = there };
     }
 
-    passed-of : (utf8 : Bool) (last : Option ℕ) (at : ℕ) → program.utf8 ≡ utf8 → is_wanted (pattern_of_mode input.anchored) 0 ≡ true
-        → input.span.start ≤ at → IsLeftOutOf (p ∷ []) program.automaton.groups e last at → IsLeftOutOfOne x p groups utf8 input.span.end last at
+    passed-of : (utf8 : Bool) (last : Option ℕ) (at : ℕ) → program.utf8 ≡ utf8 → is_allowed (only_pattern input.anchored) 0 ≡ true
+        → input.span.start ≤ at → IsLeftOutOfPatterns (p ∷ []) program.automaton.groups e last at → IsLeftOutOfOne x p groups utf8 input.span.end last at
     passed-of utf8 last at text wanted low (inl none) = inl (λ j high. none-goes at j wanted low high none)
     passed-of utf8 last at text wanted low (inr (inl t)) = let r = repeats last at t in inr (r.0, inl r.1)
     passed-of utf8 last at text wanted low (inr (inr t)) = inr (
@@ -123,10 +123,10 @@ module _ {W : Type 0} (chars : W → ℕ → Bool) (program : Compiled W) (p : P
       inr (sym text ∙ t.is_such.utf8, subst (λ (i : ℕ). ¬ (IsCharBoundary input.haystack i)) t.start t.is_such.within),
     )
 
-  module _ (built : IsBuiltOf chars program (p ∷ [])) where
+  module _ (built : AnswersAs chars program (p ∷ [])) where
     pub first-of-one : (groups : Groups) (captures : Captured) (found : Matched) → program.automaton.groups ≡ groups ∷ []
         → IsFirstMatch e captures found
-        → IsMatchOfOne x p groups input captures found × GoesNowhereTo x p input found.span.start
+        → IsMatchOfOne x p groups input captures found × GoesNowhereBefore x p input found.span.start
     first-of-one groups captures found lists f =
         let first = built.first input captures found f in (
           one-of groups lists captures found first.records first.preferred first.hold,
@@ -139,7 +139,7 @@ module _ {W : Type 0} (chars : W → ℕ → Bool) (program : Compiled W) (p : P
 
     pub next-of-one : (groups : Groups) (last : Option ℕ) (captures : Captured) (found : Matched) → program.automaton.groups ≡ groups ∷ []
         → IsNextMatch e last captures found
-        → IsMatchOfOne x p groups input captures found × (may_be_empty p ≡ false → GoesNowhereTo x p input found.span.start)
+        → IsMatchOfOne x p groups input captures found × (may_be_empty p ≡ false → GoesNowhereBefore x p input found.span.start)
     next-of-one groups last captures found lists f =
         let next = built.next input last captures found f in (
           one-of groups lists captures found next.records next.preferred next.hold,

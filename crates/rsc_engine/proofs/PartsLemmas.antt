@@ -2,9 +2,9 @@
 use Rattle.std.proofs.Common.{◌≡◌, nat_eq, ℕ, zero, suc, ◌+◌, ◌<◌, Option, Some, None, is_some, not, List, [], ◌∷◌, ◌++◌, map, take, length, get_or, ◌&&◌, ◌||◌, Bool, true, false, refl, sym, ap, ◌∙◌, arith}
 use Rattle.std.proofs.lemmas.Bool.{ne_eqb}
 use Rattle.std.proofs.lemmas.List.{map_more}
-use Rattle.rsc_engine.specs.Patterns.{Pattern, Repeat, in_order, one_of, may_be_empty}
+use Rattle.rsc_engine.specs.Patterns.{Pattern, Repeat, sequence, one_of, may_be_empty}
 use Rattle.rsc_engine.specs.FirstEnds.{loops_take_bytes}
-use Rattle.rsc_engine.specs.GroupNumbers.{count_groups}
+use Rattle.rsc_engine.specs.GroupNumbers.{group_count_in}
 use Rattle.rsc_engine.specs.Parts.{pattern_of}
 use Rattle.rsc_engine.proofs.StatesLayoutLemmas.{or_none}
 use Rattle.rsc_engine.specs.declared.builder.part.Part.{Part}
@@ -47,17 +47,17 @@ or_more : (a b c : Bool) → (a || (b || c)) ≡ ((a || b) || c)
 or_more true b c = refl
 or_more false b c = refl
 
-pub in_order_empty : (ps : List Pattern) (p : Pattern) → may_be_empty (in_order (ps ++ p ∷ [])) ≡ (may_be_empty (in_order ps) && may_be_empty p)
+pub in_order_empty : (ps : List Pattern) (p : Pattern) → may_be_empty (sequence (ps ++ p ∷ [])) ≡ (may_be_empty (sequence ps) && may_be_empty p)
 in_order_empty [] p = and_one (may_be_empty p)
 in_order_empty (q ∷ rest) p =
-    ap (λ (b : Bool). may_be_empty q && b) (in_order_empty rest p) ∙ and_more (may_be_empty q) (may_be_empty (in_order rest)) (may_be_empty p)
+    ap (λ (b : Bool). may_be_empty q && b) (in_order_empty rest p) ∙ and_more (may_be_empty q) (may_be_empty (sequence rest)) (may_be_empty p)
 
 pub in_order_loops : (ps : List Pattern) (p : Pattern)
-    → loops_take_bytes (in_order (ps ++ p ∷ [])) ≡ (loops_take_bytes (in_order ps) && loops_take_bytes p)
+    → loops_take_bytes (sequence (ps ++ p ∷ [])) ≡ (loops_take_bytes (sequence ps) && loops_take_bytes p)
 in_order_loops [] p = and_one (loops_take_bytes p)
 in_order_loops (q ∷ rest) p =
     ap (λ (b : Bool). loops_take_bytes q && b) (in_order_loops rest p)
-    ∙ and_more (loops_take_bytes q) (loops_take_bytes (in_order rest)) (loops_take_bytes p)
+    ∙ and_more (loops_take_bytes q) (loops_take_bytes (sequence rest)) (loops_take_bytes p)
 
 pub first_empty : (q : Pattern) (rest : List Pattern) → may_be_empty (one_of (q ∷ rest)) ≡ (may_be_empty q || may_be_empty (one_of rest))
 first_empty q [] = sym (or_none (may_be_empty q))
@@ -85,7 +85,7 @@ one_of_loops (q ∷ rest) p =
 
 -- ---- one of them has the groups of all, as parts in order have
 
-pub one_of_groups : (patterns : List Pattern) → count_groups (one_of patterns) ≡ count_groups (in_order patterns)
+pub one_of_groups : (patterns : List Pattern) → group_count_in (one_of patterns) ≡ group_count_in (sequence patterns)
 one_of_groups [] = refl
 one_of_groups (p ∷ []) = omega arith
-one_of_groups (p ∷ q ∷ rest) = ap (λ (n : ℕ). count_groups p + n) (one_of_groups (q ∷ rest))
+one_of_groups (p ∷ q ∷ rest) = ap (λ (n : ℕ). group_count_in p + n) (one_of_groups (q ∷ rest))

@@ -4,7 +4,7 @@ use Rattle.std.specs.List.{Contains}
 use Rattle.rsc_nfa.specs.declared.state.State.{State}
 use Rattle.rsc_nfa.specs.declared.state.State.TheVariants.{ByteRange, Assert, Fork, Capture, Accept}
 use Rattle.rsc_nfa.specs.Steps.{StepsTo, place, recorded}
-use Rattle.rsc_engine.specs.Preferred.{IsOnce, IsPreferred}
+use Rattle.rsc_engine.specs.Preferred.{HasNoPlaceTwice, IsPreferred}
 use Rattle.rsc_engine.specs.Patterns.{Subject, Pattern, subject_of}
 use Rattle.rsc_engine.specs.LinksLayout.{StepsLead}
 use Rattle.rsc_engine.specs.StepsLayout.{AreSteps, last_place}
@@ -219,7 +219,7 @@ among_at p [] h = absurd h
 among_at p (q ∷ rest) (inl e) = (0, omega arith, sym e)
 among_at p (q ∷ rest) (inr h) = let r = among_at p rest h in (suc r.0, omega (arith, r.1), r.2)
 
-pub distinct_of : (run : List (ℕ × ℕ)) → IsOnce run → AreDistinct run
+pub distinct_of : (run : List (ℕ × ℕ)) → HasNoPlaceTwice run → AreDistinct run
 distinct_of [] once = tt
 distinct_of (p ∷ rest) once = (
   λ h. let r = among_at p rest h in once 0 (suc r.0) (omega arith) (omega (arith, r.1)) (sym r.2),

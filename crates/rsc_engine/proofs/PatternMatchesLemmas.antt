@@ -10,17 +10,17 @@ use Rattle.rsc_captures.specs.Groups.{GroupLists, group_count, slot_number}
 use Rattle.rsc_captures.specs.Captured.{Captured, group_span}
 use Rattle.rsc_search.specs.Inputs.{InputParts}
 use Rattle.rsc_search.specs.Matches.{Matched}
-use Rattle.rsc_search.specs.Modes.{pattern_of_mode}
+use Rattle.rsc_search.specs.Modes.{only_pattern}
 use Rattle.rsc_engine.specs.Searches.{Search, Compiled, search_in}
-use Rattle.rsc_engine.specs.Runs.{IsMatchRun, HasNoMatch, IsMatchOf}
+use Rattle.rsc_engine.specs.Runs.{IsMatchRun, HasNoMatchFrom, IsMatchOf}
 use Rattle.rsc_engine.specs.Preferred.{IsPreferred, IsMatchWithRecords, IsFirstMatch, MayBegin, HasNoFirstMatch}
-use Rattle.rsc_engine.specs.NextMatches.{IsRepeatAt, IsSplitAt, IsLeftOutAt, MayBeNext, IsOver, IsNextMatch}
+use Rattle.rsc_engine.specs.NextMatches.{IsRepeatAt, SplitsAt, IsLeftOutAt, MayBeNext, IsOver, IsNextMatch}
 use Rattle.rsc_engine.specs.Patterns.{Pattern, subject_of, IsMatchIn, HasRunOf, Recognizes}
 use Rattle.rsc_engine.specs.PatternOrder.{PrefersLesser, RecordsPreferredWays}
 use Rattle.rsc_engine.specs.Ways.{last_in}
 use Rattle.rsc_engine.specs.GroupNumbers.{as_whole}
 use Rattle.rsc_engine.specs.PreferredWays.{IsPreferredWay}
-use Rattle.rsc_engine.specs.PatternMatches.{NoneGoesOn, IsPreferredOf, HoldRecords, recorded_span, IsFirstOf, HasNoneOf, Repeats, Splits, PrefersThere, IsLeftOutOf, MayBeNextOf, IsNextOf, IsOverOf, IsBuiltOf}
+use Rattle.rsc_engine.specs.PatternMatches.{NoneGoesFrom, IsPreferredOfPatterns, HoldRecords, recorded_span, IsFirstOfPatterns, HasNoneOfPatterns, Repeats, Splits, PrefersThere, IsLeftOutOfPatterns, MayBeNextOfPatterns, IsNextOfPatterns, IsOverOfPatterns, AnswersAs}
 use Rattle.rsc_engine.proofs.LawsLemmas.{accepted}
 use Rattle.rsc_engine.proofs.NextMatchesLemmas.{one_next, one_first}
 use Rattle.rsc_engine.proofs.PatternOrderLemmas.{Prefers, is_least}
@@ -42,14 +42,14 @@ pub record IsSearchOf (patterns : List Pattern) (lists : GroupLists) (e : Search
 -- a preferred run makes the preferred match
 preferred_of : (patterns : List Pattern) (lists : GroupLists) (e : Search) (run : List (ℕ × ℕ)) (found : Matched) → IsSearchOf patterns lists e
     → IsPreferred e (e.start_state, (place run 0).1) run → IsMatchOf e run found
-    → (records : List (ℕ × ℕ)) × IsPreferredOf patterns lists e found records × ((slot : ℕ) → recorded e.states run slot ≡ last_in records slot)
+    → (records : List (ℕ × ℕ)) × IsPreferredOfPatterns patterns lists e found records × ((slot : ℕ) → recorded e.states run slot ≡ last_in records slot)
 preferred_of patterns lists e run found its preferred makes =
     let m = (its.both found).0 (record {
       run = run;
       is_match = subst (λ (i : ℕ). IsMatchRun e (e.start_state, i) run) (sym makes.start) preferred.is_match;
       makes = makes;
     }) in
-    let w = its.ways run found m.pattern preferred makes m.its in (
+    let w = its.ways run found m.pattern preferred makes m.is_pattern in (
       w.0,
       record { is_in = m; least = λ other n same. is_least e run found other its.prefers preferred makes ((its.both other).1 n) same; way = w.1 },
       w.2,
@@ -61,15 +61,15 @@ there : (patterns : List Pattern) (lists : GroupLists) (e : Search) (at : ℕ) (
     → PrefersThere patterns lists e at IsSuch
 there patterns lists e at run IsSuch its preferred such =
     let begins : (place run 0).1 ≡ at = ap (λ (p : ℕ × ℕ). p.1) preferred.is_match.begins in
-    let q = accepted (pattern_of_mode e.mode) (slice_get e.states (place run (length run - 1)).0) preferred.is_match.ends in
+    let q = accepted (only_pattern e.mode) (slice_get e.states (place run (length run - 1)).0) preferred.is_match.ends in
     let found : Matched = record { pattern = q.0; span = record { start = (place run 0).1; end = (place run (length run - 1)).1 } } in
     let makes : IsMatchOf e run found = record { pattern = q.1; start = refl; end = refl } in
     let p = preferred_of patterns lists e run found its
     (subst (λ (i : ℕ). IsPreferred e (e.start_state, i) run) (sym begins) preferred) makes in
     record { found = found; records = p.0; start = begins; preferred = p.1; is_such = such found makes }
 
-none_on : (patterns : List Pattern) (lists : GroupLists) (e : Search) (at : ℕ) → IsSearchOf patterns lists e → HasNoMatch e at
-    → NoneGoesOn patterns e at
+none_on : (patterns : List Pattern) (lists : GroupLists) (e : Search) (at : ℕ) → IsSearchOf patterns lists e → HasNoMatchFrom e at
+    → NoneGoesFrom patterns e at
 none_on patterns lists e at its none = λ other same m.
     let r = (its.both other).1 m in none r.run (subst (λ (i : ℕ). IsMatchRun e (e.start_state, i) r.run) same r.is_match)
 
@@ -83,12 +83,12 @@ repeated patterns lists e last at its x =
     })
 
 passed_of : (patterns : List Pattern) (lists : GroupLists) (e : Search) (last : Option ℕ) (at : ℕ) → IsSearchOf patterns lists e → IsLeftOutAt e last at
-    → IsLeftOutOf patterns lists e last at
+    → IsLeftOutOfPatterns patterns lists e last at
 passed_of patterns lists e last at its passed = ⊎_elim
-    (λ (none : HasNoMatch e at). inl (none_on patterns lists e at its none))
+    (λ (none : HasNoMatchFrom e at). inl (none_on patterns lists e at its none))
     (λ why. inr (⊎_elim
     (λ (x : IsRepeatAt e last at). inl (repeated patterns lists e last at its x))
-    (λ (x : IsSplitAt e at). inr (there patterns lists e at x.run (Splits e) its x.preferred
+    (λ (x : SplitsAt e at). inr (there patterns lists e at x.run (Splits e) its x.preferred
     (λ found f. record {
       utf8 = x.splits.utf8;
       empty = f.start ∙ (x.splits.empty ∙ sym f.end);
@@ -98,14 +98,14 @@ passed_of patterns lists e last at its passed = ⊎_elim
     passed
 
 begins_of : (patterns : List Pattern) (lists : GroupLists) (e : Search) (last : Option ℕ) (at : ℕ) → IsSearchOf patterns lists e → MayBeNext e last at
-    → MayBeNextOf patterns lists e last at
+    → MayBeNextOfPatterns patterns lists e last at
 begins_of patterns lists e last at its o =
     record { start = o.start; end = o.end; anchored = λ a earlier l h. repeated patterns lists e last earlier its (o.anchored a earlier l h) }
 
 -- ---- the first match
 
 pub first_of : (patterns : List Pattern) (lists : GroupLists) (e : Search) (captures : Captured) (found : Matched) → IsSearchOf patterns lists e
-    → IsFirstMatch e captures found → IsFirstOf patterns lists e captures found
+    → IsFirstMatch e captures found → IsFirstOfPatterns patterns lists e captures found
 first_of patterns lists e captures found its f =
     let p = preferred_of patterns lists e f.run found its f.is_first.preferred f.is_of.ends in
     record {
@@ -116,13 +116,13 @@ first_of patterns lists e captures found its f =
       hold = record { pattern = f.is_of.pattern; slots = λ slot l. f.is_of.records slot l ∙ p.2 slot };
     }
 
-pub none_of : (patterns : List Pattern) (lists : GroupLists) (e : Search) → IsSearchOf patterns lists e → HasNoFirstMatch e → HasNoneOf patterns e
+pub none_of : (patterns : List Pattern) (lists : GroupLists) (e : Search) → IsSearchOf patterns lists e → HasNoFirstMatch e → HasNoneOfPatterns patterns e
 none_of patterns lists e its none = λ at begins. none_on patterns lists e at its (none at begins)
 
 -- ---- the next match
 
 pub next_of : (patterns : List Pattern) (lists : GroupLists) (e : Search) (last : Option ℕ) (captures : Captured) (found : Matched)
-    → IsSearchOf patterns lists e → IsNextMatch e last captures found → IsNextOf patterns lists e last captures found
+    → IsSearchOf patterns lists e → IsNextMatch e last captures found → IsNextOfPatterns patterns lists e last captures found
 next_of patterns lists e last captures found its f =
     let p = preferred_of patterns lists e f.run found its f.is_next.preferred f.is_of.ends in
     let start = f.is_of.ends.start in
@@ -153,10 +153,10 @@ next_of patterns lists e last captures found its f =
 still_repeated : (patterns : List Pattern) (lists : GroupLists) (e : Search) (last : Option ℕ) → IsSearchOf patterns lists e → IsOver e last
     → e.start ≤ e.end → PrefersThere patterns lists e e.start (Repeats last) → IsRepeatAt e last e.start
 still_repeated patterns lists e last its over l x = ⊎_elim
-    (λ (none : HasNoMatch e e.start). absurd (none_on patterns lists e e.start its none x.found x.start x.preferred.is_in))
+    (λ (none : HasNoMatchFrom e e.start). absurd (none_on patterns lists e e.start its none x.found x.start x.preferred.is_in))
     (λ why. ⊎_elim
     (λ (r : IsRepeatAt e last e.start). r)
-    (λ (s : IsSplitAt e e.start).
+    (λ (s : SplitsAt e e.start).
     let begins : (place s.run 0).1 ≡ e.start = ap (λ (p : ℕ × ℕ). p.1) s.preferred.is_match.begins in
     record {
       run = s.run;
@@ -167,7 +167,7 @@ still_repeated patterns lists e last its over l x = ⊎_elim
     (over e.start (record { start = omega arith; end = l; anchored = λ a earlier m h. absurd (omega (arith, m, h)) }))
 
 pub over_of : (patterns : List Pattern) (lists : GroupLists) (e : Search) (last : Option ℕ) → IsSearchOf patterns lists e → IsOver e last
-    → IsOverOf patterns lists e last
+    → IsOverOfPatterns patterns lists e last
 over_of patterns lists e last its over = λ at o. passed_of patterns lists e last at its (over at (record {
   start = o.start;
   end = o.end;
@@ -182,8 +182,8 @@ over_of patterns lists e last its over = λ at o. passed_of patterns lists e las
 -- ---- there is one
 
 -- from a position there is one preferred match, with its records
-one_there : (patterns : List Pattern) (lists : GroupLists) (e : Search) (m n : Matched) (r q : List (ℕ × ℕ)) → IsPreferredOf patterns lists e m r
-    → IsPreferredOf patterns lists e n q → m.span.start ≡ n.span.start → (m ≡ n) × (r ≡ q)
+one_there : (patterns : List Pattern) (lists : GroupLists) (e : Search) (m n : Matched) (r q : List (ℕ × ℕ)) → IsPreferredOfPatterns patterns lists e m r
+    → IsPreferredOfPatterns patterns lists e n q → m.span.start ≡ n.span.start → (m ≡ n) × (r ≡ q)
 one_there patterns lists e m n r q x y start = (
   ap (λ (p : ℕ). made p m.span.start m.span.end) number
       ∙ (ap (λ (i : ℕ). made n.pattern i m.span.end) start ∙ ap (λ (i : ℕ). made n.pattern n.span.start i) ends.0),
@@ -197,7 +197,7 @@ one_there patterns lists e m n r q x y start = (
     number = let one = x.least n y.is_in (sym start) in let other = y.least m x.is_in start in omega (arith, one, other)
 
     pattern : x.is_in.pattern ≡ y.is_in.pattern
-    pattern = same_Some _ _ (sym x.is_in.its ∙ (ap (λ (k : ℕ). slice_get patterns k) number ∙ y.is_in.its))
+    pattern = same_Some _ _ (sym x.is_in.is_pattern ∙ (ap (λ (k : ℕ). slice_get patterns k) number ∙ y.is_in.is_pattern))
 
     way : IsPreferredWay (subject_of e) (as_whole lists n.pattern y.is_in.pattern) (λ j. j ≤ e.end) n.span.start m.span.end r
     way =
@@ -231,8 +231,8 @@ one_captured c d m n r q x y match records groups slots =
     made : GroupLists → Option ℕ → List (Option ℕ) → Captured
     made g p o = record { groups = g; pattern = p; offsets = o }
 
-pub one_first_of : (patterns : List Pattern) (lists : GroupLists) (e : Search) (c d : Captured) (m n : Matched) → IsFirstOf patterns lists e c m
-    → IsFirstOf patterns lists e d n → (m ≡ n) × (c.groups ≡ d.groups → length c.offsets ≡ length d.offsets → c ≡ d)
+pub one_first_of : (patterns : List Pattern) (lists : GroupLists) (e : Search) (c d : Captured) (m n : Matched) → IsFirstOfPatterns patterns lists e c m
+    → IsFirstOfPatterns patterns lists e d n → (m ≡ n) × (c.groups ≡ d.groups → length c.offsets ≡ length d.offsets → c ≡ d)
 one_first_of patterns lists e c d m n x y = (
   same.0,
   λ groups slots. one_captured c d m n x.records y.records x.hold y.hold same.0 same.1 groups slots,
@@ -251,10 +251,10 @@ one_first_of patterns lists e c d m n x y = (
     same = one_there patterns lists e m n x.records y.records x.preferred y.preferred start
 
 -- no match is next at a position that is passed
-not_passed : (patterns : List Pattern) (lists : GroupLists) (e : Search) (last : Option ℕ) (c : Captured) (m : Matched) → IsNextOf patterns lists e last c m
-    → IsLeftOutOf patterns lists e last m.span.start → ⊥
+not_passed : (patterns : List Pattern) (lists : GroupLists) (e : Search) (last : Option ℕ) (c : Captured) (m : Matched)
+    → IsNextOfPatterns patterns lists e last c m → IsLeftOutOfPatterns patterns lists e last m.span.start → ⊥
 not_passed patterns lists e last c m x passed = ⊎_elim
-    (λ (none : NoneGoesOn patterns e m.span.start). none m refl x.preferred.is_in)
+    (λ (none : NoneGoesFrom patterns e m.span.start). none m refl x.preferred.is_in)
     (λ why. ⊎_elim
     (λ (r : PrefersThere patterns lists e m.span.start (Repeats last)).
     let same = one_there patterns lists e r.found m r.records x.records r.preferred x.preferred r.start in
@@ -266,7 +266,7 @@ not_passed patterns lists e last c m x passed = ⊎_elim
     passed
 
 pub one_next_of : (patterns : List Pattern) (lists : GroupLists) (e : Search) (last : Option ℕ) (c d : Captured) (m n : Matched)
-    → IsNextOf patterns lists e last c m → IsNextOf patterns lists e last d n
+    → IsNextOfPatterns patterns lists e last c m → IsNextOfPatterns patterns lists e last d n
     → (m ≡ n) × (c.groups ≡ d.groups → length c.offsets ≡ length d.offsets → c ≡ d)
 one_next_of patterns lists e last c d m n x y = (
   same.0,
@@ -286,7 +286,7 @@ one_next_of patterns lists e last c d m n x y = (
     same = one_there patterns lists e m n x.records y.records x.preferred y.preferred start
 
 pub not_over_of : (patterns : List Pattern) (lists : GroupLists) (e : Search) (last : Option ℕ) (c : Captured) (m : Matched)
-    → IsNextOf patterns lists e last c m → IsOverOf patterns lists e last → ⊥
+    → IsNextOfPatterns patterns lists e last c m → IsOverOfPatterns patterns lists e last → ⊥
 not_over_of patterns lists e last c m x over = not_passed patterns lists e last c m x (over m.span.start x.begins)
 
 -- one run makes one match, with one list of offsets
@@ -334,7 +334,7 @@ next_of_runs e last c d m n x y groups slots =
 -- ---- a built program
 
 pub built_of : {W : Type 0} (chars : W → ℕ → Bool) (program : Compiled W) (patterns : List Pattern) → Recognizes chars program patterns
-    → PrefersLesser chars program → RecordsPreferredWays chars program patterns → IsBuiltOf chars program patterns
+    → PrefersLesser chars program → RecordsPreferredWays chars program patterns → AnswersAs chars program patterns
 built_of chars program patterns r p w = record {
   first = λ input captures found f. first_of patterns program.automaton.groups (search_in chars program input) captures found (its input) f;
   none = λ input none. none_of patterns program.automaton.groups (search_in chars program input) (its input) none;

@@ -8,7 +8,7 @@ use Rattle.rsc_nfa.specs.Steps.{place, recorded, or_earlier, is_capture_of}
 use Rattle.rsc_search.specs.Matches.{Matched}
 use Rattle.rsc_engine.specs.Searches.{Search, Compiled, search_in}
 use Rattle.rsc_engine.specs.Runs.{accepts, IsMatchRun, IsMatchOf}
-use Rattle.rsc_engine.specs.Preferred.{IsOnce, IsPreferredTo, IsPreferred}
+use Rattle.rsc_engine.specs.Preferred.{HasNoPlaceTwice, IsPreferredTo, IsPreferred}
 use Rattle.rsc_engine.specs.Patterns.{Pattern, Subject, subject_of, HasRunOf}
 use Rattle.rsc_engine.specs.PatternOrder.{PrefersLesser, PrefersFirstEnds, RecordsFirstWays, RecordsWays, RecordsPreferredWays}
 use Rattle.rsc_engine.specs.LinksLayout.{Aim, StepsLead}
@@ -173,7 +173,7 @@ record Once (e : Search) (found : Matched) : Type 0 where
   run : List (ℕ × ℕ)
   is_match : IsMatchRun e (e.start_state, found.span.start) run
   makes : IsMatchOf e run found
-  once : IsOnce run
+  once : HasNoPlaceTwice run
 
 once_run : (e : Search) (found : Matched) (run : List (ℕ × ℕ)) → IsMatchRun e (e.start_state, found.span.start) run → IsMatchOf e run found
     → Once e found

@@ -5,7 +5,7 @@ use Rattle.std.proofs.lemmas.List.{get_or_append_left, get_or-append-add}
 use Rattle.std.specs.List.{AllPairs}
 use Rattle.rsc_engine.specs.Patterns.{Pattern, Empty, Never, Class, Literal, Assertion, Then, Either, Repeat, Group, Subject, may_be_empty}
 use Rattle.rsc_engine.specs.Courses.{Course, Skip, Dead, Byte, Here, After, Choose, Turn, Again, Within, Stand, fresh, chosen, noted, Turns, SomeTurns, GoesOnce, Reaches, FirstTurns, IsFirstOnce}
-use Rattle.rsc_engine.specs.PreferredWays.{may_come, IsOfRanges, bytes_in_order, AreCopies, AreOptionalCopies, IsAgain, IsStar, IsCourseOf, choices, IsPreferredWay}
+use Rattle.rsc_engine.specs.PreferredWays.{optional_course, IsOfRanges, bytes_in_order, AreCopies, AreOptionalCopies, IsAgain, IsStar, IsCourseOf, choices, IsPreferredWay}
 use Rattle.rsc_engine.specs.RenamedLayout.{AreRenamed, IsOneToOne, AreAlike}
 use Rattle.rsc_engine.proofs.RenamedLayoutLemmas.{AreBoth, first_same}
 
@@ -124,15 +124,15 @@ same-copies Is same zero c e h g = from_form c Skip e h g
 same-copies Is same (suc n) c e h g =
     from_form c (After h.0 h.1) e h.2 (g.0, g.1, g.2, same h.0 g.0 h.3 g.3, same-copies Is same n h.1 g.1 h.4 g.4)
 
-same-choice : (greedy : Bool) (w v : ℕ) (d f : Course) → AreRenamed Any d f → AreRenamed Any (may_come greedy w d) (may_come greedy v f)
+same-choice : (greedy : Bool) (w v : ℕ) (d f : Course) → AreRenamed Any d f → AreRenamed Any (optional_course greedy w d) (optional_course greedy v f)
 same-choice true w v d f r = (v, f, Skip, refl, tt, r, refl)
 same-choice false w v d f r = (v, Skip, f, refl, tt, refl, r)
 
 -- a choice of two courses that are alike
-same-come : (greedy : Bool) (w v : ℕ) (c d e f : Course) → c ≡ may_come greedy w d → e ≡ may_come greedy v f → AreRenamed Any d f
+same-come : (greedy : Bool) (w v : ℕ) (c d e f : Course) → c ≡ optional_course greedy w d → e ≡ optional_course greedy v f → AreRenamed Any d f
     → AreRenamed Any c e
 same-come greedy w v c d e f a b r =
-    from_form c (may_come greedy w d) e a (subst (λ (z : Course). AreRenamed Any (may_come greedy w d) z) (sym b) (same-choice greedy w v d f r))
+    from_form c (optional_course greedy w d) e a (subst (λ (z : Course). AreRenamed Any (optional_course greedy w d) z) (sym b) (same-choice greedy w v d f r))
 
 same-most : (Is : Course → Type 0) → AreCourses Is → (greedy : Bool) (n : ℕ) → AreCourses (AreOptionalCopies Is greedy n)
 same-most Is same greedy zero c e h g = from_form c Skip e h g

@@ -5,13 +5,13 @@ use Rattle.std.proofs.lemmas.Bool.Decides.{nat_tests}
 use Rattle.std.proofs.lemmas.List.{get_or_past, length-map}
 use Rattle.std.proofs.lemmas.List.Sums.{sum_by-cons}
 use Rattle.rsc_primitives.specs.Indices.{max_index}
-use Rattle.rsc_captures.specs.Groups.{GroupLists, Groups, groups_of, group_count, name_of, stands_before, explicit_before, explicit_groups, all_groups}
-use Rattle.rsc_captures.specs.Faults.{Fault, TooManyPatterns, MissingGroups, FirstMustBeUnnamed, TooManyGroups, Duplicate, pattern_fault, name_fault, explicit_fault, group_fault, IsChecked, IsFirstFault, RefusesFor}
+use Rattle.rsc_captures.specs.Groups.{GroupLists, Groups, groups_of, group_count, name_of, stands_before, explicit_before, explicit_groups, all_group_count}
+use Rattle.rsc_captures.specs.Faults.{Fault, TooManyPatterns, MissingGroups, FirstMustBeUnnamed, TooManyGroups, Duplicate, pattern_fault, name_fault, explicit_fault, group_fault, IsChecked, IsFirstFault, IsRefusal}
 use Rattle.rsc_engine.specs.declared.error.Error.{Error}
 use Rattle.rsc_engine.specs.declared.error.Error.TheVariants as error
 use Rattle.rsc_engine.specs.Patterns.{Pattern}
 use Rattle.rsc_engine.specs.Sizes.{size_of_program}
-use Rattle.rsc_engine.specs.Parts.{groups_of_part, groups_of_pattern}
+use Rattle.rsc_engine.specs.Parts.{groups_of_part, groups_as_pattern}
 use Rattle.rsc_engine.specs.declared.builder.part.Part.{Part}
 use Rattle.rsc_engine.specs.Refusals.{RepeatsName, are_too_large, error_of}
 
@@ -49,7 +49,7 @@ explicit_repeats limit lists p g q name e = decide (nat_lt limit (2 * (explicit_
     decide true f = absurd (cc)
     decide false f =
         let both = name_repeats (groups_of lists p) p g (name_of lists p g) q name f in
-        record { pattern = p; group = g; name = name; its = both.0; lesser = both.1 }
+        record { pattern = p; group = g; name = name; is_name = both.0; lesser = both.1 }
 
 -- the fault of a pattern isn't that of a name
 pattern_apart : (a b c : Bool) (p q : ℕ) (name : List ℕ)
@@ -72,11 +72,11 @@ first_repeats limit lists q name (inr f) = absurd (let e = f.fault in cc)
 -- ---- of groups for which there are slots each fault is of a name
 
 all-more : (part : Part) (rest : List Part)
-    → all_groups (map groups_of_pattern (part ∷ rest)) ≡ length (groups_of_pattern part) + all_groups (map groups_of_pattern rest)
-all-more part rest = sum_by-cons (length {A = Option (List ℕ)}) (groups_of_pattern part) (map groups_of_pattern rest)
+    → all_group_count (map groups_as_pattern (part ∷ rest)) ≡ length (groups_as_pattern part) + all_group_count (map groups_as_pattern rest)
+all-more part rest = sum_by-cons (length {A = Option (List ℕ)}) (groups_as_pattern part) (map groups_as_pattern rest)
 
 -- the groups of the patterns before p but their first ones, and a first group for each pattern
-before-all : (parts : List Part) (p : ℕ) → explicit_before (map groups_of_pattern parts) p + length parts ≤ all_groups (map groups_of_pattern parts)
+before-all : (parts : List Part) (p : ℕ) → explicit_before (map groups_as_pattern parts) p + length parts ≤ all_group_count (map groups_as_pattern parts)
 before-all [] zero = omega arith
 before-all [] (suc p) = omega arith
 before-all (part ∷ rest) zero = omega (arith, before-all rest 0, all-more part rest)
@@ -84,12 +84,12 @@ before-all (part ∷ rest) (suc p) = omega (
   arith,
   before-all rest p,
   all-more part rest,
-  sum_by-cons explicit_groups (groups_of_pattern part) (take p (map groups_of_pattern rest)),
+  sum_by-cons explicit_groups (groups_as_pattern part) (take p (map groups_as_pattern rest)),
 )
 
 -- the same with a group of p and those before it
-group-all : (parts : List Part) (p g : ℕ) → g < group_count (map groups_of_pattern parts) p
-    → explicit_before (map groups_of_pattern parts) p + g + length parts ≤ all_groups (map groups_of_pattern parts)
+group-all : (parts : List Part) (p g : ℕ) → g < group_count (map groups_as_pattern parts) p
+    → explicit_before (map groups_as_pattern parts) p + g + length parts ≤ all_group_count (map groups_as_pattern parts)
 group-all [] zero g l = absurd (omega (arith, l))
 group-all [] (suc p) g l = absurd (omega (arith, l))
 group-all (part ∷ rest) zero g l = omega (arith, l, before-all rest 0, all-more part rest)
@@ -97,10 +97,10 @@ group-all (part ∷ rest) (suc p) g l = omega (
   arith,
   group-all rest p g l,
   all-more part rest,
-  sum_by-cons explicit_groups (groups_of_pattern part) (take p (map groups_of_pattern rest)),
+  sum_by-cons explicit_groups (groups_as_pattern part) (take p (map groups_as_pattern rest)),
 )
 
-first-unnamed : (parts : List Part) (p : ℕ) → p < length parts → (rest : Groups) × (groups_of (map groups_of_pattern parts) p ≡ None ∷ rest)
+first-unnamed : (parts : List Part) (p : ℕ) → p < length parts → (rest : Groups) × (groups_of (map groups_as_pattern parts) p ≡ None ∷ rest)
 first-unnamed [] p l = absurd (omega (arith, l))
 first-unnamed (part ∷ rest) zero l = (groups_of_part part, refl)
 first-unnamed (part ∷ rest) (suc p) l = first-unnamed rest p (omega (arith, l))
@@ -120,38 +120,38 @@ name-kind groups p g (Some name) f e = decide (stands_before groups g name) e
     decide true is = (name, cc)
     decide false is = absurd (cc)
 
-group-kind : (parts : List Part) (p g : ℕ) (f : Fault) → 2 * all_groups (map groups_of_pattern parts) ≤ max_index
-    → IsChecked (map groups_of_pattern parts) p g → group_fault max_index (map groups_of_pattern parts) p g ≡ Some f
+group-kind : (parts : List Part) (p g : ℕ) (f : Fault) → 2 * all_group_count (map groups_as_pattern parts) ≤ max_index
+    → IsChecked (map groups_as_pattern parts) p g → group_fault max_index (map groups_as_pattern parts) p g ≡ Some f
     → (name : List ℕ) × (f ≡ Duplicate p name)
 group-kind parts p zero f small there fault =
-    let within : p < length parts = omega (arith, there.0, length-map parts groups_of_pattern) in
+    let within : p < length parts = omega (arith, there.0, length-map parts groups_as_pattern) in
     let its = first-unnamed parts p within in
-    let none : pattern_fault (map groups_of_pattern parts) p ≡ None =
-    first-plain (map groups_of_pattern parts) p its.0 its.1 (omega (arith, within, small, before-all parts 0)) in
+    let none : pattern_fault (map groups_as_pattern parts) p ≡ None =
+    first-plain (map groups_as_pattern parts) p its.0 its.1 (omega (arith, within, small, before-all parts 0)) in
     absurd (cc)
 group-kind parts p (suc g) f small there fault =
     let all = group-all parts p (suc g) (omega (arith, there.1)) in
     let later : nat_eq (suc g) 0 ≡ false = grind (arith, nat_tests) in
-    let few : nat_lt max_index (2 * (explicit_before (map groups_of_pattern parts) p + suc g)) ≡ false = grind (arith, nat_tests) in
-    name-kind (groups_of (map groups_of_pattern parts) p) p (suc g) (name_of (map groups_of_pattern parts) p (suc g)) f (rw (later, few) at fault)
+    let few : nat_lt max_index (2 * (explicit_before (map groups_as_pattern parts) p + suc g)) ≡ false = grind (arith, nat_tests) in
+    name-kind (groups_of (map groups_as_pattern parts) p) p (suc g) (name_of (map groups_as_pattern parts) p (suc g)) f (rw (later, few) at fault)
 
-first-kind : (parts : List Part) (f : Fault) → 2 * all_groups (map groups_of_pattern parts) ≤ max_index
-    → IsFirstFault max_index (map groups_of_pattern parts) f → (p : ℕ) × (name : List ℕ) × (f ≡ Duplicate p name)
+first-kind : (parts : List Part) (f : Fault) → 2 * all_group_count (map groups_as_pattern parts) ≤ max_index
+    → IsFirstFault max_index (map groups_as_pattern parts) f → (p : ℕ) × (name : List ℕ) × (f ≡ Duplicate p name)
 first-kind parts f small (inl w) = let its = group-kind parts w.p w.g f small w.group w.fault in (w.p, its.0, its.1)
 first-kind parts f small (inr w) =
-    absurd (omega (arith, w.past, small, before-all parts (w.p + 1), length-map parts groups_of_pattern))
+    absurd (omega (arith, w.past, small, before-all parts (w.p + 1), length-map parts groups_as_pattern))
 
 -- why groups are refused for which there are slots
-pub names-refused : (parts : List Part) (refusal : Option Fault) → 2 * all_groups (map groups_of_pattern parts) ≤ max_index
-    → RefusesFor max_index (map groups_of_pattern parts) refusal
-    → (error_of refusal ≡ error.OutOfMemory) ⊎ ((error_of refusal ≡ error.RepeatedName) × RepeatsName (map groups_of_pattern parts))
+pub names-refused : (parts : List Part) (refusal : Option Fault) → 2 * all_group_count (map groups_as_pattern parts) ≤ max_index
+    → IsRefusal max_index (map groups_as_pattern parts) refusal
+    → (error_of refusal ≡ error.OutOfMemory) ⊎ ((error_of refusal ≡ error.RepeatedName) × RepeatsName (map groups_as_pattern parts))
 names-refused parts None small r = inl refl
 names-refused parts (Some f) small r =
     let its = first-kind parts f small r in
     inr (
       ap (λ (g : Fault). error_of (Some g)) its.2,
-      first_repeats max_index (map groups_of_pattern parts) its.0 its.1
-          (subst (λ (g : Fault). IsFirstFault max_index (map groups_of_pattern parts) g) its.2 r),
+      first_repeats max_index (map groups_as_pattern parts) its.0 its.1
+          (subst (λ (g : Fault). IsFirstFault max_index (map groups_as_pattern parts) g) its.2 r),
     )
 
 -- ---- a pattern that has a group
@@ -171,8 +171,8 @@ neither true b e = absurd (cc)
 neither false b e = (refl, e)
 
 pub not-large : (limit : ℕ) (patterns : List Pattern) (lists : GroupLists) → are_too_large limit patterns lists ≡ false
-    → (size_of_program patterns ≤ limit) × (2 * all_groups lists ≤ max_index)
+    → (size_of_program patterns ≤ limit) × (2 * all_group_count lists ≤ max_index)
 not-large limit patterns lists e =
     let states : nat_lt limit (size_of_program patterns) ≡ false = (neither _ _ e).0 in
-    let groups : nat_lt max_index (2 * all_groups lists) ≡ false = (neither _ _ e).1 in
+    let groups : nat_lt max_index (2 * all_group_count lists) ≡ false = (neither _ _ e).1 in
     (grind (arith, nat_tests), grind (arith, nat_tests))

@@ -1,8 +1,8 @@
 -- How many states copies and lists of parts have, and programs.
 use Rattle.std.proofs.Common.{◌≡◌, ℕ, zero, suc, ◌+◌, ◌-◌, ◌*◌, ◌<◌, ◌≤◌, min, Bool, true, false, Some, None, List, [], ◌∷◌, map, length, length-drop, slice_get, drop, get_or, refl, ap, arith, suc-mul}
 use Rattle.std.proofs.lemmas.List.Sums.{sum_by-cons, sum_by-take-drop}
-use Rattle.rsc_engine.specs.Patterns.{Pattern, Then, Repeat, in_order, one_of, may_be_empty}
-use Rattle.rsc_engine.specs.GroupNumbers.{count_groups}
+use Rattle.rsc_engine.specs.Patterns.{Pattern, Then, Repeat, sequence, one_of, may_be_empty}
+use Rattle.rsc_engine.specs.GroupNumbers.{group_count_in}
 use Rattle.rsc_engine.specs.LinksLayout.{copies, optional, up_to}
 use Rattle.rsc_engine.specs.Sizes.{size_of, size_of_program}
 
@@ -64,17 +64,17 @@ up_to_only-size max greedy p =
 
 -- ---- parts in order, or one of them: a part and those after it
 
-pub in_order-room : {X : Type 0} (f : X → Pattern) (xs : List X) (n : ℕ) (x : X) → n < length xs → x ≡ get_or xs n x
-    → size_of (f x) + size_of (in_order (map f (drop (suc n) xs))) ≤ size_of (in_order (map f xs))
-in_order-room f [] n x l is = absurd (omega (arith, l))
-in_order-room f (y ∷ ys) zero x l is = omega (arith, ap (λ z. size_of (f z)) is)
-in_order-room f (y ∷ ys) (suc n) x l is = omega (arith, in_order-room f ys n x (omega (arith, l)) is)
+pub sequence-room : {X : Type 0} (f : X → Pattern) (xs : List X) (n : ℕ) (x : X) → n < length xs → x ≡ get_or xs n x
+    → size_of (f x) + size_of (sequence (map f (drop (suc n) xs))) ≤ size_of (sequence (map f xs))
+sequence-room f [] n x l is = absurd (omega (arith, l))
+sequence-room f (y ∷ ys) zero x l is = omega (arith, ap (λ z. size_of (f z)) is)
+sequence-room f (y ∷ ys) (suc n) x l is = omega (arith, sequence-room f ys n x (omega (arith, l)) is)
 
-pub in_order-left : {X : Type 0} (f : X → Pattern) (xs : List X) (n : ℕ) (x : X) → n < length xs → x ≡ get_or xs n x
-    → count_groups (f x) + count_groups (in_order (map f (drop (suc n) xs))) ≤ count_groups (in_order (map f xs))
-in_order-left f [] n x l is = absurd (omega (arith, l))
-in_order-left f (y ∷ ys) zero x l is = omega (arith, ap (λ z. count_groups (f z)) is)
-in_order-left f (y ∷ ys) (suc n) x l is = omega (arith, in_order-left f ys n x (omega (arith, l)) is)
+pub sequence-left : {X : Type 0} (f : X → Pattern) (xs : List X) (n : ℕ) (x : X) → n < length xs → x ≡ get_or xs n x
+    → group_count_in (f x) + group_count_in (sequence (map f (drop (suc n) xs))) ≤ group_count_in (sequence (map f xs))
+sequence-left f [] n x l is = absurd (omega (arith, l))
+sequence-left f (y ∷ ys) zero x l is = omega (arith, ap (λ z. group_count_in (f z)) is)
+sequence-left f (y ∷ ys) (suc n) x l is = omega (arith, sequence-left f ys n x (omega (arith, l)) is)
 
 pub one_of-last : {X : Type 0} (f : X → Pattern) (xs : List X) (n : ℕ) (x : X) → n < length xs → x ≡ get_or xs n x
     → size_of (f x) ≤ size_of (one_of (map f xs))

@@ -4,14 +4,14 @@ use Rattle.std.specs.List.{list_any}
 use Rattle.std.proofs.lemmas.Bool.{cases_lt}
 use Rattle.std.proofs.lemmas.Bool.Decides.{nat_tests}
 use Rattle.std.proofs.lemmas.Option.{slice_get_within}
-use Rattle.rsc_captures.specs.Groups.{GroupLists, all_groups}
+use Rattle.rsc_captures.specs.Groups.{GroupLists, all_group_count}
 use Rattle.rsc_nfa.specs.declared.state.State.{State}
 use Rattle.rsc_nfa.specs.declared.state.State.TheVariants.{ByteRange, Assert, Fork, Capture, Accept}
 use Rattle.rsc_look.specs.declared.assertion.Look.{Look}
 use Rattle.rsc_nfa.specs.Classes.{asserts}
 use Rattle.rsc_nfa.specs.declared.error.BuildError.{BuildError}
 use Rattle.rsc_nfa.specs.declared.error.BuildError.TheVariants.{OutOfMemory}
-use Rattle.rsc_nfa.specs.StateFaults.{target_fault, fault_of_state, fault_in, AreFaultless, IsFirstFaulty}
+use Rattle.rsc_nfa.specs.StateFaults.{target_fault, fault_of_state, fault_in, AreFaultless, IsFirstFaultOfStates}
 use Rattle.rsc_engine.specs.Patterns.{Pattern, Empty, Never, Class, Literal, Assertion, Then, Either, Repeat}
 use Rattle.rsc_engine.specs.Asks.{may_occur, asks}
 use Rattle.rsc_engine.specs.EnclosesLayout.{IsOnWay, StaysOnWay, Encloses}
@@ -307,18 +307,18 @@ no_fault : (n s target : ℕ) → target < n → target_fault n s target ≡ Non
 no_fault n s target l = let e : nat_lt target n ≡ true = grind (arith, nat_tests) in rw e refl
 
 state_clear : (groups : GroupLists) (states : List State) (n s : ℕ) (state : State) → LeadsBelow n (length groups) state
-    → Fits (2 * all_groups groups) state → fault_of_state groups n s state ≡ None
+    → Fits (2 * all_group_count groups) state → fault_of_state groups n s state ≡ None
 state_clear groups states n s (ByteRange a b next) x y =
     let within : a ≤ b = y in let e : nat_lt b a ≡ false = grind (arith, nat_tests) in rw (e, no_fault n s next x) refl
 state_clear groups states n s (Assert l next) x y = no_fault n s next x
 state_clear groups states n s (Fork a b) x y = rw (no_fault n s a x.0, no_fault n s b x.1) refl
 state_clear groups states n s (Capture slot next) x y =
-    let below = y in let e : nat_lt slot (2 * all_groups groups) ≡ true = grind (arith, nat_tests) in rw (no_fault n s next x, e) refl
+    let below = y in let e : nat_lt slot (2 * all_group_count groups) ≡ true = grind (arith, nat_tests) in rw (no_fault n s next x, e) refl
 state_clear groups states n s (Accept p) x y = let e : nat_lt p (length groups) ≡ true = grind (arith, nat_tests) in rw e refl
 
 -- they have no fault
 pub sound-faultless : (groups : GroupLists) (states : List State) (r : Look → Bool) (first : ℕ)
-    → AreSound (2 * all_groups groups) (length groups) r 0 (length states) first states → AreFaultless groups states
+    → AreSound (2 * all_group_count groups) (length groups) r 0 (length states) first states → AreFaultless groups states
 sound-faultless groups states r first x = λ s l. go s l (slice_get states s) refl
   where
     go : (s : ℕ) → s < length states → (o : Option State) → slice_get states s ≡ o → fault_in groups (length states) s (slice_get states s) ≡ None
@@ -328,8 +328,8 @@ sound-faultless groups states r first x = λ s l. go s l (slice_get states s) re
 
 -- so there is no automaton of them only where there was no memory
 pub sound-made : (groups : GroupLists) (states : List State) (r : Look → Bool) (first : ℕ) (fault : BuildError)
-    → AreSound (2 * all_groups groups) (length groups) r 0 (length states) first states
-    → ((fault ≡ OutOfMemory) × AreFaultless groups states) ⊎ IsFirstFaulty groups states fault → fault ≡ OutOfMemory
+    → AreSound (2 * all_group_count groups) (length groups) r 0 (length states) first states
+    → ((fault ≡ OutOfMemory) × AreFaultless groups states) ⊎ IsFirstFaultOfStates groups states fault → fault ≡ OutOfMemory
 sound-made groups states r first fault x (inl m) = m.0
 sound-made groups states r first fault x (inr f) = absurd (
     let none = sound-faultless groups states r first x f.state f.there in
@@ -355,7 +355,7 @@ any-none t (x ∷ rest) none = rw (none zero x refl, any-none t rest (λ k state
 
 -- they are those of its patterns
 pub sound-asks : (groups : GroupLists) (states : List State) (r : Look → Bool) (first : ℕ) (look : Look)
-    → AreSound (2 * all_groups groups) (length groups) r 0 (length states) first states → list_any (asserts look) states ≡ r look
+    → AreSound (2 * all_group_count groups) (length groups) r 0 (length states) first states → list_any (asserts look) states ≡ r look
 sound-asks groups states r first look x = decide (r look) refl
   where
     decide : (t : Bool) → r look ≡ t → list_any (asserts look) states ≡ t

@@ -6,7 +6,7 @@ use Rattle.rsc_nfa.specs.declared.state.State.TheVariants.{ByteRange, Assert, Fo
 use Rattle.rsc_engine.specs.Patterns.{Pattern, Empty, Never, Class, Literal, Assertion, Then, Either, Repeat, Group, may_be_empty}
 use Rattle.rsc_engine.specs.LinksLayout.{choice_of, copies, optional, up_to}
 use Rattle.rsc_engine.specs.Courses.{Course, Skip, Dead, Byte, Here, After, Choose, Turn, Again, Within}
-use Rattle.rsc_engine.specs.PreferredWays.{may_come, AreCopies, IsStar, IsCourseOf, choices}
+use Rattle.rsc_engine.specs.PreferredWays.{optional_course, AreCopies, IsStar, IsCourseOf, choices}
 use Rattle.rsc_engine.specs.CoursesLayout.{Follows}
 use Rattle.rsc_engine.specs.TakesLayout.{AreNumbers, TakesCourse}
 use Rattle.rsc_engine.proofs.CoursesLayoutLemmas.{Follows-skip, Follows-here, Follows-byte, Follows-dead, Follows-reversed, Follows-after, Follows-choose, Follows-within, Follows-turn, Follows-again}
@@ -177,7 +177,7 @@ Takes-again low high first f next greedy p states same some is x = record {
 -- ---- the courses of a part, in the form in which it is built
 
 optional-course : (greedy : Bool) (p : Pattern) (c : Course) → IsCourseOf (optional greedy p) c
-    → (w : ℕ) × (d : Course) × (c ≡ may_come greedy w d) × IsCourseOf p d
+    → (w : ℕ) × (d : Course) × (c ≡ optional_course greedy w d) × IsCourseOf p d
 optional-course true p c h = (h.0, h.1, h.3 ∙ ap (λ (e : Course). Choose h.0 h.1 e) h.5, h.4)
 optional-course false p c h = (h.0, h.2, h.3 ∙ ap (λ (d : Course). Choose h.0 d h.2) h.4, h.5)
 
@@ -202,7 +202,7 @@ pub up_to-course : (greedy : Bool) (n : ℕ) (p : Pattern) (c : Course) → IsCo
 up_to-course greedy zero p c h = h
 up_to-course greedy (suc n) p c h =
     let g = optional-course greedy (Then p (up_to greedy n p)) c h in
-    (g.0, g.3.0, g.3.1, g.2 ∙ ap (λ (d : Course). may_come greedy g.0 d) g.3.2, g.3.3, up_to-course greedy n p g.3.1 g.3.4)
+    (g.0, g.3.0, g.3.1, g.2 ∙ ap (λ (d : Course). optional_course greedy g.0 d) g.3.2, g.3.3, up_to-course greedy n p g.3.1 g.3.4)
 
 pub limited-course : (min max : ℕ) (greedy : Bool) (p : Pattern) → 0 < min → (c : Course)
     → IsCourseOf (Then (copies min p) (Repeat 0 (Some (max - min)) greedy p)) c → IsCourseOf (Repeat (min + 0) (Some max) greedy p) c

@@ -1,7 +1,7 @@
 -- The pattern of a tree, by its variants.
 use Rattle.std.proofs.Common.{◌≡◌, ℕ, [], ◌∷◌, map, Box, Vec, Global, sym, ap, ◌∙◌}
 use Rattle.rsc_look.specs.declared.assertion.Look.{Look}
-use Rattle.rsc_engine.specs.Patterns.{Pattern, Empty, Never, Class, Literal, Assertion, Then, Either, Repeat, in_order, one_of}
+use Rattle.rsc_engine.specs.Patterns.{Pattern, Empty, Never, Class, Literal, Assertion, Then, Either, Repeat, sequence, one_of}
 use Rattle.rsc_engine.specs.Trees.{pattern_in, pattern_of_node}
 use Rattle.rsc_engine.specs.declared.builder.tree.Tree.{Tree, Tree-F, fold-roll-Tree}
 use Rattle.rsc_engine.specs.declared.builder.tree.Tree.TheVariants as variants
@@ -31,7 +31,7 @@ pattern-then one other = ap pattern_in (sym (variants.rolls-Then one other)) ∙
 pub pattern-either : (one other : Box Tree Global) → pattern_in (variants.Either one other) ≡ Either (pattern_in one.value) (pattern_in other.value)
 pattern-either one other = ap pattern_in (sym (variants.rolls-Either one other)) ∙ fold-roll-Tree Pattern pattern_of_node (Tree-F.Either one other)
 
-pub pattern-concat : (trees : Vec Tree Global) → pattern_in (variants.Concat trees) ≡ in_order (map pattern_in trees.items)
+pub pattern-concat : (trees : Vec Tree Global) → pattern_in (variants.Concat trees) ≡ sequence (map pattern_in trees.items)
 pattern-concat trees = ap pattern_in (sym (variants.rolls-Concat trees)) ∙ fold-roll-Tree Pattern pattern_of_node (Tree-F.Concat trees)
 
 pub pattern-one_of : (trees : Vec Tree Global) → pattern_in (variants.OneOf trees) ≡ one_of (map pattern_in trees.items)

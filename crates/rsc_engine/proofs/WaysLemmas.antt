@@ -11,7 +11,7 @@ use Rattle.rsc_search.specs.declared.span.Span.{Span}
 use Rattle.rsc_engine.proofs.RefusalsLemmas.{pattern_there}
 use Rattle.rsc_engine.specs.Patterns.{Pattern, Empty, Never, Class, Literal, Assertion, Then, Either, Repeat, Group, Subject, Times, Goes}
 use Rattle.rsc_engine.specs.Ways.{Point, last_in, with_record, TimesWith, GoesWith}
-use Rattle.rsc_engine.specs.GroupNumbers.{count_groups, numbered, as_whole, IsGroupOf}
+use Rattle.rsc_engine.specs.GroupNumbers.{group_count_in, numbered, as_whole, IsGroupOf}
 use Rattle.rsc_engine.proofs.GroupNumbersLemmas.{numbered-goes}
 
 -- ---- a way goes where the pattern goes
@@ -116,7 +116,7 @@ times-slot s R keeps (suc t) m n g = times-slot s R keeps t g.0 n g.2 ∙ keeps 
 
 -- a slot of none of the pattern's groups holds what it held
 keeps-slot : (f : ℕ → ℕ) (s : ℕ) (x : Subject) (p : Pattern) (n : ℕ)
-    → ((g : ℕ) → n ≤ g → g < n + count_groups p → ((f g ≡ s) → ⊥) × ((f g + 1 ≡ s) → ⊥)) → (m k : Point)
+    → ((g : ℕ) → n ≤ g → g < n + group_count_in p → ((f g ≡ s) → ⊥) × ((f g + 1 ≡ s) → ⊥)) → (m k : Point)
     → GoesWith x (numbered f n p) m k
     → last_in k.1 s ≡ last_in m.1 s
 keeps-slot f s x Empty n off m k g = ap (λ (z : Point). last_in z.1 s) (sym g)
@@ -125,12 +125,12 @@ keeps-slot f s x (Class ranges) n off m k g = ap (λ (r : List (ℕ × ℕ)). la
 keeps-slot f s x (Literal bytes) n off m k g = ap (λ (r : List (ℕ × ℕ)). last_in r s) (sym g.1)
 keeps-slot f s x (Assertion look) n off m k g = ap (λ (r : List (ℕ × ℕ)). last_in r s) (sym g.1)
 keeps-slot f s x (Then a b) n off m k g =
-    keeps-slot f s x b (n + count_groups a) (λ h low high. off h (omega (arith, low)) (omega (arith, high))) g.0 k g.2
+    keeps-slot f s x b (n + group_count_in a) (λ h low high. off h (omega (arith, low)) (omega (arith, high))) g.0 k g.2
     ∙ keeps-slot f s x a n (λ h low high. off h low (omega (arith, high))) m g.0 g.1
 keeps-slot f s x (Either a b) n off m k g = ⊎_elim
     (λ (w : GoesWith x (numbered f n a) m k). keeps-slot f s x a n (λ h low high. off h low (omega (arith, high))) m k w)
-    (λ (w : GoesWith x (numbered f (n + count_groups a) b) m k).
-    keeps-slot f s x b (n + count_groups a) (λ h low high. off h (omega (arith, low)) (omega (arith, high))) m k w)
+    (λ (w : GoesWith x (numbered f (n + group_count_in a) b) m k).
+    keeps-slot f s x b (n + group_count_in a) (λ h low high. off h (omega (arith, low)) (omega (arith, high))) m k w)
     g
 keeps-slot f s x (Repeat min max greedy a) n off m k g = times-slot s (GoesWith x (numbered f n a)) (keeps-slot f s x a n off) g.0 m k g.3
 keeps-slot f s x (Group slot a) n off m k g =
@@ -143,17 +143,17 @@ keeps-slot f s x (Group slot a) n off m k g =
 abbrev IsOutside : ℕ → ℕ → ℕ → Type 0
 IsOutside n count h = (h < n) ⊎ (n + count ≤ h)
 
-keeps-others : (f : ℕ → ℕ) → AreApart f → (x : Subject) (p : Pattern) (n h : ℕ) → IsOutside n (count_groups p) h → (m k : Point)
+keeps-others : (f : ℕ → ℕ) → AreApart f → (x : Subject) (p : Pattern) (n h : ℕ) → IsOutside n (group_count_in p) h → (m k : Point)
     → GoesWith x (numbered f n p) m k → Keeps f h m k
 keeps-others f apart x p n h out m k g = (
   keeps-slot f (f h) x p n (λ i low high. ((apart i h (other i low high)).0, λ e. (apart h i (λ s. other i low high (sym s))).1 (sym e))) m k g,
   keeps-slot f (f h + 1) x p n (λ i low high. ((apart i h (other i low high)).1, λ e. (apart i h (other i low high)).0 (omega (arith, e)))) m k g,
 )
   where
-    other : (i : ℕ) → n ≤ i → i < n + count_groups p → i ≡ h → ⊥
+    other : (i : ℕ) → n ≤ i → i < n + group_count_in p → i ≡ h → ⊥
     other i low high same = ⊎_elim
         (λ (l : h < n). absurd (omega (arith, l, low, same)))
-        (λ (l : n + count_groups p ≤ h). absurd (omega (arith, l, high, same)))
+        (λ (l : n + group_count_in p ≤ h). absurd (omega (arith, l, high, same)))
         out
 
 -- ---- a group of the pattern
@@ -189,7 +189,7 @@ may-times x f h a R may (suc t) m n g = ⊎_elim
     (λ (c : IsSetBy x f h a n). inr c)
     (may-times x f h a R may t g.0 n g.2)
 
-group-within : (g : ℕ) (a p : Pattern) → IsGroupOf g a p → g < count_groups p
+group-within : (g : ℕ) (a p : Pattern) → IsGroupOf g a p → g < group_count_in p
 group-within g a Empty is = absurd is
 group-within g a Never is = absurd is
 group-within g a (Class ranges) is = absurd is
@@ -197,11 +197,11 @@ group-within g a (Literal bytes) is = absurd is
 group-within g a (Assertion look) is = absurd is
 group-within g a (Then b c) is = ⊎_elim
     (λ (i : IsGroupOf g a b). let l = group-within g a b i in omega (arith, l))
-    (λ (i : (k : ℕ) × (g ≡ count_groups b + k) × IsGroupOf k a c). let l = group-within i.0 a c i.2 in omega (arith, l, i.1))
+    (λ (i : (k : ℕ) × (g ≡ group_count_in b + k) × IsGroupOf k a c). let l = group-within i.0 a c i.2 in omega (arith, l, i.1))
     is
 group-within g a (Either b c) is = ⊎_elim
     (λ (i : IsGroupOf g a b). let l = group-within g a b i in omega (arith, l))
-    (λ (i : (k : ℕ) × (g ≡ count_groups b + k) × IsGroupOf k a c). let l = group-within i.0 a c i.2 in omega (arith, l, i.1))
+    (λ (i : (k : ℕ) × (g ≡ group_count_in b + k) × IsGroupOf k a c). let l = group-within i.0 a c i.2 in omega (arith, l, i.1))
     is
 group-within g a (Repeat min max greedy b) is = group-within g a b is
 group-within zero a (Group slot b) is = omega arith
@@ -218,22 +218,22 @@ may-set f apart x (Then b c) a n g h e is m k w = ⊎_elim
     (λ (i : IsGroupOf g a b).
     let l = group-within g a b i in
     may-after x f h a m w.0 k (may-set f apart x b a n g h e i m w.0 w.1)
-    (keeps-others f apart x c (n + count_groups b) h (inl (omega (arith, e, l))) w.0 k w.2))
-    (λ (i : (j : ℕ) × (g ≡ count_groups b + j) × IsGroupOf j a c).
+    (keeps-others f apart x c (n + group_count_in b) h (inl (omega (arith, e, l))) w.0 k w.2))
+    (λ (i : (j : ℕ) × (g ≡ group_count_in b + j) × IsGroupOf j a c).
     may-before x f h a m w.0 k (keeps-others f apart x b n h (inr (omega (arith, e, i.1))) m w.0 w.1)
-    (may-set f apart x c a (n + count_groups b) i.0 h (omega (arith, e, i.1)) i.2 w.0 k w.2))
+    (may-set f apart x c a (n + group_count_in b) i.0 h (omega (arith, e, i.1)) i.2 w.0 k w.2))
     is
 may-set f apart x (Either b c) a n g h e is m k w = ⊎_elim
     (λ (i : IsGroupOf g a b).
     let l = group-within g a b i in
     ⊎_elim
     (λ (v : GoesWith x (numbered f n b) m k). may-set f apart x b a n g h e i m k v)
-    (λ (v : GoesWith x (numbered f (n + count_groups b) c) m k). inl (keeps-others f apart x c (n + count_groups b) h (inl (omega (arith, e, l))) m k v))
+    (λ (v : GoesWith x (numbered f (n + group_count_in b) c) m k). inl (keeps-others f apart x c (n + group_count_in b) h (inl (omega (arith, e, l))) m k v))
     w)
-    (λ (i : (j : ℕ) × (g ≡ count_groups b + j) × IsGroupOf j a c). ⊎_elim
+    (λ (i : (j : ℕ) × (g ≡ group_count_in b + j) × IsGroupOf j a c). ⊎_elim
     (λ (v : GoesWith x (numbered f n b) m k). inl (keeps-others f apart x b n h (inr (omega (arith, e, i.1))) m k v))
-    (λ (v : GoesWith x (numbered f (n + count_groups b) c) m k).
-    may-set f apart x c a (n + count_groups b) i.0 h (omega (arith, e, i.1)) i.2 m k v)
+    (λ (v : GoesWith x (numbered f (n + group_count_in b) c) m k).
+    may-set f apart x c a (n + group_count_in b) i.0 h (omega (arith, e, i.1)) i.2 m k v)
     w)
     is
 may-set f apart x (Repeat min max greedy b) a n g h e is m k w =
@@ -311,7 +311,7 @@ pub whole-others : (x : Subject) (lists : GroupLists) (m : ℕ) (p : Pattern) (s
     → (s ≡ 2 * m → ⊥) → (s ≡ 2 * m + 1 → ⊥) → GoesWith x (as_whole lists m p) (start, []) (end, records) → last_in records s ≡ None
 whole-others x lists m p start end s records l first second w = keeps-slot (slot_number lists m) s x (Group 0 p) 0 off (start, []) (end, records) w
   where
-    off : (g : ℕ) → 0 ≤ g → g < 0 + count_groups (Group 0 p) → ((slot_number lists m g ≡ s) → ⊥) × ((slot_number lists m g + 1 ≡ s) → ⊥)
+    off : (g : ℕ) → 0 ≤ g → g < 0 + group_count_in (Group 0 p) → ((slot_number lists m g ≡ s) → ⊥) × ((slot_number lists m g + 1 ≡ s) → ⊥)
     off zero low high = (λ e. first (sym e), λ e. second (sym e))
     off (suc g) low high =
         let later = slot_later lists m g in (λ e. absurd (omega (arith, e, later, l)), λ e. absurd (omega (arith, e, later, l)))

@@ -6,7 +6,7 @@ use Rattle.rsc_engine.specs.Ways.{Point, with_record}
 use Rattle.rsc_engine.specs.FirstWays.{AreFirstRounds, IsFirstWay}
 use Rattle.rsc_engine.specs.LinksLayout.{copies, optional, up_to}
 use Rattle.rsc_engine.specs.Courses.{Course, Skip, Dead, Byte, Here, After, Choose, Turn, Again, Within, fresh}
-use Rattle.rsc_engine.specs.PreferredWays.{may_come, IsOfRanges, bytes_in_order, AreCopies, AreOptionalCopies, IsAgain, IsStar, IsCourseOf, IsPreferredWay}
+use Rattle.rsc_engine.specs.PreferredWays.{optional_course, IsOfRanges, bytes_in_order, AreCopies, AreOptionalCopies, IsAgain, IsStar, IsCourseOf, IsPreferredWay}
 use Rattle.rsc_engine.specs.WrittenLayout.{written}
 use Rattle.rsc_engine.proofs.FirstEndsLemmas.{ends-along, both_are, both, loop-takes, part-loops, up_to-loops, counted-loops}
 use Rattle.rsc_engine.proofs.FirstWaysLemmas.{HasFirstWay, way-alike, class-way, literal-way, literal_none-way, up_to-way, counted-way}
@@ -194,14 +194,14 @@ like-copies Is p like (suc n) c h =
     like-form c (After h.0 h.1) (copies (suc n) p) h.2
     (like-then (written h.0) p (written h.1) (copies n p) (like h.0 h.3) (like-copies Is p like n h.1 h.4))
 
-like-may : (greedy : Bool) (w : ℕ) (d : Course) (p : Pattern) → IsLike (written d) p → IsLike (written (may_come greedy w d)) (optional greedy p)
+like-may : (greedy : Bool) (w : ℕ) (d : Course) (p : Pattern) → IsLike (written d) p → IsLike (written (optional_course greedy w d)) (optional greedy p)
 like-may true w d p a = like-optional true (written d) p a
 like-may false w d p a = like-optional false (written d) p a
 
 like-most : (Is : Course → Type 0) (p : Pattern) → AreLike Is p → (greedy : Bool) (n : ℕ) → AreLike (AreOptionalCopies Is greedy n) (up_to greedy n p)
 like-most Is p like greedy zero c h = like-form c Skip Empty h (like-self Empty)
 like-most Is p like greedy (suc n) c h =
-    like-form c (may_come greedy h.0 (After h.1 h.2)) (up_to greedy (suc n) p) h.3
+    like-form c (optional_course greedy h.0 (After h.1 h.2)) (up_to greedy (suc n) p) h.3
     (like-may greedy h.0 (After h.1 h.2) (Then p (up_to greedy n p))
     (like-then (written h.1) p (written h.2) (up_to greedy n p) (like h.1 h.4) (like-most Is p like greedy n h.2 h.5)))
 

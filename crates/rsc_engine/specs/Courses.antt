@@ -37,15 +37,15 @@ pub record Stand : Type 0 where
 abbrev pub fresh : ℕ → Stand
 fresh i = record { at = i; records = []; made = [] }
 
--- after a byte
+-- where a course stands after a byte
 abbrev pub further : Stand → Stand
 further s = record { at = s.at + 1; records = s.records; made = [] }
 
--- after a choice
+-- where a course stands after the choice w
 abbrev pub chosen : ℕ → Stand → Stand
 chosen w s = record { at = s.at; records = s.records; made = w ∷ s.made }
 
--- after a record
+-- where a course stands after a record in the slot
 abbrev pub noted : ℕ → Stand → Stand
 noted slot s = record { at = s.at; records = (slot, s.at) ∷ s.records; made = s.made }
 
@@ -53,12 +53,12 @@ noted slot s = record { at = s.at; records = (slot, s.at) ∷ s.records; made = 
 abbrev pub IsUnmade : ℕ → Stand → Type 0
 IsUnmade w s = ¬ (Contains s.made w)
 
--- n rounds
+-- n rounds of a loop lead from the one to the other
 abbrev pub Turns : (Stand → Stand → Type 0) → ℕ → ℕ → Stand → Stand → Type 0
 Turns R w zero s t = IsUnmade w s × (t ≡ chosen w s)
 Turns R w (suc n) s t = IsUnmade w s × (k : Stand) × R (chosen w s) k × Turns R w n k t
 
--- any number of rounds
+-- any number of rounds of a loop lead from the one to the other
 abbrev pub SomeTurns : (Stand → Stand → Type 0) → ℕ → Stand → Stand → Type 0
 SomeTurns R w s t = (n : ℕ) × Turns R w n s t
 
@@ -74,7 +74,7 @@ GoesOnce x (Turn w greedy c) s t = SomeTurns (GoesOnce x c) w s t
 GoesOnce x (Again w greedy c) s t = (k : Stand) × GoesOnce x c s k × SomeTurns (GoesOnce x c) w k t
 GoesOnce x (Within slot c) s t = (k : Stand) × GoesOnce x c (noted slot s) k × (t ≡ noted (slot + 1) k)
 
--- it goes to where something is wanted
+-- the course goes to where something is wanted
 abbrev pub Reaches : (Stand → Type 0) → (Stand → Stand → Type 0) → Stand → Type 0
 Reaches Wanted R s = (t : Stand) × R s t × Wanted t
 

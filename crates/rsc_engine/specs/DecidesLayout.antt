@@ -3,7 +3,7 @@ use Rattle.std.specs.Prelude.{◌≡◌, ℕ, ◌-◌, ◌<◌, ◌⊎◌, Bool,
 use Rattle.rsc_nfa.specs.Steps.{place}
 use Rattle.rsc_engine.specs.Searches.{Search}
 use Rattle.rsc_engine.specs.Runs.{IsMatchRun}
-use Rattle.rsc_engine.specs.Preferred.{IsOnce, IsPreferredTo, IsLeftmostFirst}
+use Rattle.rsc_engine.specs.Preferred.{HasNoPlaceTwice, IsPreferredTo, IsLeftmostFirst}
 
 -- the last place of a run
 abbrev pub last_of : List (ℕ × ℕ) → ℕ × ℕ
@@ -25,8 +25,8 @@ IsHopeless e i seen s = (run : List (ℕ × ℕ)) → ¬ (IsUnseenMatch e i seen
 -- no other is preferred to it, among such runs which come to no place twice
 pub record IsBest (e : Search) (i : ℕ) (seen : ℕ → Bool) (s : ℕ) (run : List (ℕ × ℕ)) : Type 0 where
   pub is_unseen : IsUnseenMatch e i seen s run
-  pub once : IsOnce run
-  pub first : (other : List (ℕ × ℕ)) → IsUnseenMatch e i seen s other → IsOnce other → ¬ (IsPreferredTo e other run)
+  pub once : HasNoPlaceTwice run
+  pub first : (other : List (ℕ × ℕ)) → IsUnseenMatch e i seen s other → HasNoPlaceTwice other → ¬ (IsPreferredTo e other run)
 
 -- nothing was seen
 abbrev pub unseen : ℕ → Bool

@@ -5,7 +5,7 @@ use Rattle.rsc_nfa.specs.Steps.{recorded}
 use Rattle.rsc_engine.specs.Searches.{Compiled, search_in}
 use Rattle.rsc_engine.specs.Runs.{IsMatchRun}
 
--- in every input, each run from the start state to a match that records in the first slot of a pair also records in the second, at that position or later
+-- in every input, each run from the start state to a match that records in a slot 2k also records in the slot 2k + 1, at that position or later
 pub record ClosesGroups {W : Type 0} (chars : W → ℕ → Bool) (program : Compiled W) : Type 0 where
   pub closed : (input : InputParts) (run : List (ℕ × ℕ)) (at pair i : ℕ) → IsMatchRun (search_in chars program input) (program.start, at) run →
       recorded program.automaton.states run (2 * pair) ≡ Some i →

@@ -32,7 +32,7 @@ pub mod OnePattern  -- what a program of one pattern answers, by the pattern alo
 pub mod OrderedLayout  -- what a state does at a position, and what a scan of an ordered list of states finds
 pub mod Parts  -- which pattern a part is, and which groups it has; and what a builder has of them
 pub mod PassTableLayout  -- the table of the rows of both passes
-pub mod PassesLayout  -- a look at an ordered list of states, and what a pass of such looks knows
+pub mod PassesLayout  -- a scan of an ordered list of states, and what a pass of such scans knows
 pub mod PathsLayout  -- paths of states to a match: lists of states alone, along which the position, the records and the choices are carried
 pub mod PatternMatches  -- which match of patterns is first, and which is next, by the patterns alone; `last` is where the last one ended, if there was one
 pub mod PatternOrder  -- which match of a program's patterns is preferred

@@ -20,8 +20,8 @@ pub record IsLine (haystack : List ℕ) (line : Span) : Type 0 where
   pub ends : line.end < length haystack → slice_index haystack line.end ≡ line_feed
 
 -- of the lines that begin from the one position on and before the other none is such a line
-abbrev pub NoLine : List ℕ → (Span → Type 0) → ℕ → ℕ → Type 0
-NoLine haystack IsSuch from to = (line : Span) → IsLine haystack line → from ≤ line.start → line.start < to → ¬ (IsSuch line)
+abbrev pub NoSuchLine : List ℕ → (Span → Type 0) → ℕ → ℕ → Type 0
+NoSuchLine haystack IsSuch from to = (line : Span) → IsLine haystack line → from ≤ line.start → line.start < to → ¬ (IsSuch line)
 
 -- a search in the span has a match; assertions see beyond it
 abbrev pub HasMatchIn : {W : Type 0} → (W → ℕ → Bool) → Compiled W → List ℕ → Span → Type 0
@@ -32,24 +32,24 @@ HasMatchIn chars program haystack span =
 pub record LinesLeft (W : Type 0) : Type 0 where
   pub program : Compiled W
   pub haystack : List ℕ
-  pub at : ℕ
+  pub from : ℕ
 
 -- the first line with a match, of the lines left
 pub record IsNextLine {W : Type 0} (chars : W → ℕ → Bool) (left : LinesLeft W) (line : Span) : Type 0 where
   pub is_line : IsLine left.haystack line
-  pub from : left.at ≤ line.start
+  pub from : left.from ≤ line.start
   pub matches : HasMatchIn chars left.program left.haystack line
-  pub none_before : NoLine left.haystack (HasMatchIn chars left.program left.haystack) left.at line.start
+  pub none_before : NoSuchLine left.haystack (HasMatchIn chars left.program left.haystack) left.from line.start
 
 -- no line that is left has a match
-abbrev pub HasNoLine : {W : Type 0} → (W → ℕ → Bool) → LinesLeft W → Type 0
-HasNoLine chars left = NoLine left.haystack (HasMatchIn chars left.program left.haystack) left.at (length left.haystack)
+abbrev pub HasNoMatchingLine : {W : Type 0} → (W → ℕ → Bool) → LinesLeft W → Type 0
+HasNoMatchingLine chars left = NoSuchLine left.haystack (HasMatchIn chars left.program left.haystack) left.from (length left.haystack)
 
 -- what is left after a line
 abbrev pub after_line : {W : Type 0} → LinesLeft W → Span → LinesLeft W
-after_line left line = record { program = left.program; haystack = left.haystack; at = line.end + 1 }
+after_line left line = record { program = left.program; haystack = left.haystack; from = line.end + 1 }
 
 -- these are all lines with a match that are left, in order: each is the next one after those before it, and after the last there is none
-abbrev pub AreLines : {W : Type 0} → (W → ℕ → Bool) → LinesLeft W → List Span → Type 0
-AreLines chars left [] = HasNoLine chars left
-AreLines chars left (line ∷ rest) = IsNextLine chars left line × AreLines chars (after_line left line) rest
+abbrev pub AreAllMatchingLines : {W : Type 0} → (W → ℕ → Bool) → LinesLeft W → List Span → Type 0
+AreAllMatchingLines chars left [] = HasNoMatchingLine chars left
+AreAllMatchingLines chars left (line ∷ rest) = IsNextLine chars left line × AreAllMatchingLines chars (after_line left line) rest

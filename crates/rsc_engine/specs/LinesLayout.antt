@@ -4,7 +4,7 @@ use Rattle.rsc_search.specs.declared.anchored.Anchored.TheVariants.{No}
 use Rattle.rsc_search.specs.declared.span.Span.{Span}
 use Rattle.rsc_engine.specs.Searches.{Search, Compiled, search_in}
 use Rattle.rsc_engine.specs.Ends.{IsMatchEnd}
-use Rattle.rsc_engine.specs.Lines.{IsLine, NoLine}
+use Rattle.rsc_engine.specs.Lines.{IsLine, NoSuchLine}
 
 -- the search of a haystack from a position on
 abbrev pub search_from : {W : Type 0} → (W → ℕ → Bool) → Compiled W → List ℕ → ℕ → Search
@@ -21,4 +21,4 @@ pub record EndsFrom (e : Search) (at : ℕ) : Type 0 where
 pub record IsCandidate (haystack : List ℕ) (IsSuch : Span → Type 0) (at : ℕ) (line : Span) : Type 0 where
   pub is_line : IsLine haystack line
   pub from : at ≤ line.start
-  pub none_before : NoLine haystack IsSuch at line.start
+  pub none_before : NoSuchLine haystack IsSuch at line.start

@@ -6,11 +6,11 @@ use Rattle.rsc_nfa.specs.Steps.{IsStep}
 use Rattle.rsc_engine.specs.Patterns.{Pattern, Empty, Then, Either, Subject, Goes}
 use Rattle.rsc_engine.specs.EnclosesLayout.{Encloses}
 use Rattle.rsc_engine.specs.StatesLayout.{FitsAndAsks, asked_by}
-use Rattle.rsc_engine.specs.GroupNumbers.{count_groups, numbered}
+use Rattle.rsc_engine.specs.GroupNumbers.{group_count_in, numbered}
 use Rattle.rsc_engine.specs.ByWaysLayout.{ByWays}
 use Rattle.rsc_engine.specs.TakesLayout.{TakesCourse}
 use Rattle.rsc_engine.specs.Sizes.{size_of}
-use Rattle.rsc_captures.specs.Groups.{GroupLists, all_groups}
+use Rattle.rsc_captures.specs.Groups.{GroupLists, all_group_count}
 
 -- a match that is looked for: in a subject up to an end, of a pattern, to a position
 pub record Aim : Type 0 where
@@ -54,19 +54,19 @@ Builds slots old new first next p =
 
 -- between which slots the parts of a pattern record: after the end of its whole match, below the limit of all slots
 abbrev pub slots_between : GroupLists → ℕ → ℕ × ℕ
-slots_between lists pattern = (2 * pattern + 1, 2 * all_groups lists)
+slots_between lists pattern = (2 * pattern + 1, 2 * all_group_count lists)
 
 -- the same of a part whose groups are numbered up to `left` and from `now` on: as many states as it has
 abbrev pub BuildsPart : (ℕ → ℕ) → ℕ × ℕ → ℕ → ℕ → List State → List State → ℕ → ℕ → Pattern → Type 0
 BuildsPart slot_of slots left now old new first next p =
-    (left ≡ now + count_groups p) × Builds slots old new first next (numbered slot_of now p) × (length new ≡ length old + size_of p)
+    (left ≡ now + group_count_in p) × Builds slots old new first next (numbered slot_of now p) × (length new ≡ length old + size_of p)
 
 -- the same of what is made of copies of a part; only where there is one the groups from `now` on are known
 abbrev pub BuildsCopies : (ℕ → ℕ) → ℕ × ℕ → ℕ → ℕ → List State → List State → ℕ → ℕ → ℕ → (Pattern → Pattern)
     → Pattern → Type 0
 BuildsCopies slot_of slots left now old new first next count made_of p =
-    (0 < count → left ≡ now + count_groups p)
-    × ((n : ℕ) → left ≡ n + count_groups p → Builds slots old new first next (made_of (numbered slot_of n p)))
+    (0 < count → left ≡ now + group_count_in p)
+    × ((n : ℕ) → left ≡ n + group_count_in p → Builds slots old new first next (made_of (numbered slot_of n p)))
     × (length new ≡ length old + size_of (made_of p))
 
 -- one state was added, and this is its number

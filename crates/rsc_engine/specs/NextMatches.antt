@@ -7,7 +7,7 @@ use Rattle.rsc_search.specs.Inputs.{InputParts}
 use Rattle.rsc_search.specs.Matches.{Matched}
 use Rattle.rsc_captures.specs.Captured.{Captured}
 use Rattle.rsc_engine.specs.Searches.{Search, Compiled, search_in}
-use Rattle.rsc_engine.specs.Runs.{HasNoMatch}
+use Rattle.rsc_engine.specs.Runs.{HasNoMatchFrom}
 use Rattle.rsc_engine.specs.Preferred.{IsPreferred, IsMatchWithRecords}
 
 -- the match is empty
@@ -20,7 +20,7 @@ pub record IsRepeat (last : Option ℕ) (run : List (ℕ × ℕ)) : Type 0 where
   pub there : last ≡ Some (place run 0).1
 
 -- the program takes haystacks for text, and the match is empty and not at a character boundary
-pub record IsSplit (e : Search) (run : List (ℕ × ℕ)) : Type 0 where
+pub record SplitsCharacter (e : Search) (run : List (ℕ × ℕ)) : Type 0 where
   pub utf8 : e.utf8 ≡ true
   pub empty : IsEmpty run
   pub within : ¬ (IsCharBoundary e.haystack (place run 0).1)
@@ -32,14 +32,14 @@ pub record IsRepeatAt (e : Search) (last : Option ℕ) (at : ℕ) : Type 0 where
   pub repeats : IsRepeat last run
 
 -- the preferred match from the position splits a character
-pub record IsSplitAt (e : Search) (at : ℕ) : Type 0 where
+pub record SplitsAt (e : Search) (at : ℕ) : Type 0 where
   pub run : List (ℕ × ℕ)
   pub preferred : IsPreferred e (e.start_state, at) run
-  pub splits : IsSplit e run
+  pub splits : SplitsCharacter e run
 
 -- no match begins at the position, or the preferred one is a repeat or splits a character
 abbrev pub IsLeftOutAt : Search → Option ℕ → ℕ → Type 0
-IsLeftOutAt e last at = HasNoMatch e at ⊎ (IsRepeatAt e last at ⊎ IsSplitAt e at)
+IsLeftOutAt e last at = HasNoMatchFrom e at ⊎ (IsRepeatAt e last at ⊎ SplitsAt e at)
 
 -- the next match may begin at the position: it's in the span, and if the search is anchored, at each earlier one there is a repeat
 pub record MayBeNext (e : Search) (last : Option ℕ) (at : ℕ) : Type 0 where
@@ -48,11 +48,11 @@ pub record MayBeNext (e : Search) (last : Option ℕ) (at : ℕ) : Type 0 where
   pub anchored : ¬ (e.mode ≡ No) → (earlier : ℕ) → e.start ≤ earlier → earlier < at → IsRepeatAt e last earlier
 
 -- the run begins where the next match may, it's the preferred one from there, repeats and splits nothing, and each earlier position at which it may is left out
-pub record IsNext (e : Search) (last : Option ℕ) (run : List (ℕ × ℕ)) : Type 0 where
+pub record IsNextRun (e : Search) (last : Option ℕ) (run : List (ℕ × ℕ)) : Type 0 where
   pub begins : MayBeNext e last (place run 0).1
   pub preferred : IsPreferred e (e.start_state, (place run 0).1) run
   pub no_repeat : ¬ (IsRepeat last run)
-  pub splits_none : ¬ (IsSplit e run)
+  pub splits_none : ¬ (SplitsCharacter e run)
   pub left_out : (at : ℕ) → at < (place run 0).1 → MayBeNext e last at → IsLeftOutAt e last at
 
 -- each position at which the next match may begin is left out
@@ -62,7 +62,7 @@ IsOver e last = (at : ℕ) → MayBeNext e last at → IsLeftOutAt e last at
 -- the match and the captures are those of the next run
 pub record IsNextMatch (e : Search) (last : Option ℕ) (captures : Captured) (found : Matched) : Type 0 where
   pub run : List (ℕ × ℕ)
-  pub is_next : IsNext e last run
+  pub is_next : IsNextRun e last run
   pub is_of : IsMatchWithRecords e run found captures
 
 -- what is left of an iteration: the program, the input from where the next match may begin, and where the last one ended
@@ -72,12 +72,12 @@ pub record MatchesLeft (W : Type 0) : Type 0 where
   pub last : Option ℕ
 
 -- the input from another start on
-abbrev pub from_start : InputParts → ℕ → InputParts
-from_start input at = record input { span = record { start = at; end = input.span.end } }
+abbrev pub with_start : InputParts → ℕ → InputParts
+with_start input at = record input { span = record { start = at; end = input.span.end } }
 
 -- what is left after a match
 abbrev pub after : {W : Type 0} → MatchesLeft W → Matched → MatchesLeft W
-after left found = record { program = left.program; input = from_start left.input found.span.end; last = Some found.span.end }
+after left found = record { program = left.program; input = with_start left.input found.span.end; last = Some found.span.end }
 
 -- how many calls of `next` may find a match yet, at most, by the span's end and where the last match ended: each match ends later than the one before it
 abbrev pub calls_left : ℕ → Option ℕ → ℕ
@@ -89,6 +89,6 @@ abbrev pub IsNextOfLeft : {W : Type 0} → (W → ℕ → Bool) → MatchesLeft 
 IsNextOfLeft chars left found = (captures : Captured) × IsNextMatch (search_in chars left.program left.input) left.last captures found
 
 -- these are all matches of what is left, in order: each is the next one after those before it, and after the last there is none
-abbrev pub AreAll : {W : Type 0} → (W → ℕ → Bool) → MatchesLeft W → List Matched → Type 0
-AreAll chars left [] = IsOver (search_in chars left.program left.input) left.last
-AreAll chars left (found ∷ rest) = IsNextOfLeft chars left found × AreAll chars (after left found) rest
+abbrev pub AreAllMatches : {W : Type 0} → (W → ℕ → Bool) → MatchesLeft W → List Matched → Type 0
+AreAllMatches chars left [] = IsOver (search_in chars left.program left.input) left.last
+AreAllMatches chars left (found ∷ rest) = IsNextOfLeft chars left found × AreAllMatches chars (after left found) rest

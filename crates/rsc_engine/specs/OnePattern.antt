@@ -6,10 +6,10 @@ use Rattle.rsc_search.specs.declared.anchored.Anchored.TheVariants.{No}
 use Rattle.rsc_search.specs.declared.span.Span.{Span}
 use Rattle.rsc_search.specs.Inputs.{InputParts}
 use Rattle.rsc_search.specs.Matches.{Matched}
-use Rattle.rsc_search.specs.Modes.{pattern_of_mode}
+use Rattle.rsc_search.specs.Modes.{only_pattern}
 use Rattle.rsc_captures.specs.Captured.{Captured}
 use Rattle.rsc_captures.specs.Groups.{Groups}
-use Rattle.rsc_engine.specs.Runs.{is_wanted}
+use Rattle.rsc_engine.specs.Runs.{is_allowed}
 use Rattle.rsc_engine.specs.Patterns.{Pattern, Subject, Goes}
 use Rattle.rsc_engine.specs.GroupNumbers.{as_whole}
 use Rattle.rsc_engine.specs.PreferredWays.{IsPreferredWay}
@@ -30,12 +30,12 @@ pub record IsMatchOfOne (x : Subject) (p : Pattern) (groups : Groups) (input : I
   pub hold : HoldRecords captures found records
 
 -- the pattern goes nowhere in the input's span from a position before this one
-abbrev pub GoesNowhereTo : Subject → Pattern → InputParts → ℕ → Type 0
-GoesNowhereTo x p input at = (i j : ℕ) → input.span.start ≤ i → i < at → j ≤ input.span.end → ¬ (Goes x p i j)
+abbrev pub GoesNowhereBefore : Subject → Pattern → InputParts → ℕ → Type 0
+GoesNowhereBefore x p input at = (i j : ℕ) → input.span.start ≤ i → i < at → j ≤ input.span.end → ¬ (Goes x p i j)
 
 -- the pattern, if it may match, goes nowhere in the input's span from a position at which a match may begin
 abbrev pub GoesNowhereIn : Subject → Pattern → InputParts → Type 0
-GoesNowhereIn x p input = is_wanted (pattern_of_mode input.anchored) 0 ≡ true → (i j : ℕ) → input.span.start ≤ i → i ≤ input.span.end
+GoesNowhereIn x p input = is_allowed (only_pattern input.anchored) 0 ≡ true → (i j : ℕ) → input.span.start ≤ i → i ≤ input.span.end
     → (¬ (input.anchored ≡ No) → i ≡ input.span.start) → j ≤ input.span.end → ¬ (Goes x p i j)
 
 -- the only pattern's preferred way from i to positions up to the end leads to j, and makes these records
@@ -49,13 +49,13 @@ abbrev pub StaysAt : Subject → Pattern → Groups → ℕ → ℕ → Type 0
 StaysAt x p groups end at = (records : List (ℕ × ℕ)) × IsWayOfOne x p groups end at at records
 
 -- an empty match at the position is left out: the last match ended there, or haystacks are text and the position is within a character
-abbrev pub IsLeftOut : Bool → List ℕ → Option ℕ → ℕ → Type 0
-IsLeftOut utf8 haystack last at = (last ≡ Some at) ⊎ ((utf8 ≡ true) × (¬ (IsCharBoundary haystack at)))
+abbrev pub IsEmptyMatchLeftOut : Bool → List ℕ → Option ℕ → ℕ → Type 0
+IsEmptyMatchLeftOut utf8 haystack last at = (last ≡ Some at) ⊎ ((utf8 ≡ true) × (¬ (IsCharBoundary haystack at)))
 
 -- no match is taken at the position: the pattern goes nowhere from there up to the end, or its preferred way is empty and left out
 abbrev pub IsLeftOutOfOne : Subject → Pattern → Groups → Bool → ℕ → Option ℕ → ℕ → Type 0
 IsLeftOutOfOne x p groups utf8 end last at =
-    ((j : ℕ) → j ≤ end → ¬ (Goes x p at j)) ⊎ (StaysAt x p groups end at × IsLeftOut utf8 x.haystack last at)
+    ((j : ℕ) → j ≤ end → ¬ (Goes x p at j)) ⊎ (StaysAt x p groups end at × IsEmptyMatchLeftOut utf8 x.haystack last at)
 
 -- the next match may begin at the position: it's in the span, and if the search is anchored, at each earlier one the match would repeat the last one
 pub record MayBeNextOfOne (x : Subject) (p : Pattern) (groups : Groups) (input : InputParts) (last : Option ℕ) (at : ℕ) : Type 0 where
@@ -64,13 +64,13 @@ pub record MayBeNextOfOne (x : Subject) (p : Pattern) (groups : Groups) (input :
   pub anchored : ¬ (input.anchored ≡ No) → (earlier : ℕ) → input.span.start ≤ earlier → earlier < at
       → StaysAt x p groups input.span.end earlier × (last ≡ Some earlier)
 
--- the next match is here: it may begin there, it isn't empty and left out, and each earlier position of the input's span is passed
+-- a match at the span is the next one: it may begin there, it's no empty match that is left out, and each earlier position of the input's span is left out
 pub record IsNextOfOne (x : Subject) (p : Pattern) (groups : Groups) (utf8 : Bool) (input : InputParts) (last : Option ℕ) (span : Span) : Type 0 where
   pub begins : MayBeNextOfOne x p groups input last span.start
-  pub taken : span.start ≡ span.end → ¬ (IsLeftOut utf8 x.haystack last span.start)
+  pub taken : span.start ≡ span.end → ¬ (IsEmptyMatchLeftOut utf8 x.haystack last span.start)
   pub left_out : (at : ℕ) → input.span.start ≤ at → at < span.start → IsLeftOutOfOne x p groups utf8 input.span.end last at
 
 -- each position at which the next match may begin is left out, if the pattern may match
 abbrev pub IsOverOfOne : Subject → Pattern → Groups → Bool → InputParts → Option ℕ → Type 0
-IsOverOfOne x p groups utf8 input last = is_wanted (pattern_of_mode input.anchored) 0 ≡ true → (at : ℕ)
+IsOverOfOne x p groups utf8 input last = is_allowed (only_pattern input.anchored) 0 ≡ true → (at : ℕ)
     → MayBeNextOfOne x p groups input last at → IsLeftOutOfOne x p groups utf8 input.span.end last at

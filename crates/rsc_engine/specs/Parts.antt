@@ -20,12 +20,12 @@ abbrev pub groups_of_part : Part → Groups
 groups_of_part part = groups_in part.names.items
 
 -- the groups of a pattern: that of the whole match, which has no name, and those of its part
-abbrev pub groups_of_pattern : Part → Groups
-groups_of_pattern part = None ∷ groups_of_part part
+abbrev pub groups_as_pattern : Part → Groups
+groups_as_pattern part = None ∷ groups_of_part part
 
 -- the groups of each pattern that a builder has finished
-abbrev pub lists_of : Builder → GroupLists
-lists_of builder = map groups_of_pattern builder.patterns.items
+abbrev pub group_lists_of : Builder → GroupLists
+group_lists_of builder = map groups_as_pattern builder.patterns.items
 
 -- how many states a program of a builder may have
 abbrev pub limit_of : Builder → ℕ

@@ -1,8 +1,8 @@
--- A look at an ordered list of states, and what a pass of such looks knows.
+-- A scan of an ordered list of states, and what a pass of such scans knows.
 use Rattle.std.specs.Prelude.{◌≡◌, ℕ, ◌+◌, ◌<◌, ◌≤◌, Bool, true, false, List, [], ◌∷◌, slice_get, Option, Some, None}
 use Rattle.rsc_nfa.specs.declared.state.State.TheVariants.{Fork}
 use Rattle.rsc_engine.specs.Searches.{Search}
-use Rattle.rsc_engine.specs.Runs.{Leads, IsPlace, accepts, HasNoMatch}
+use Rattle.rsc_engine.specs.Runs.{Leads, IsPlace, accepts, HasNoMatchFrom}
 use Rattle.rsc_engine.specs.Preferred.{HasNoFirstMatch}
 use Rattle.rsc_engine.specs.RowsLayout.{AddsOne}
 use Rattle.rsc_engine.specs.DecidesLayout.{IsMore, unseen, Decides, IsLastPlace}
@@ -61,7 +61,7 @@ IsFound e None = HasNoFirstMatch e
 
 -- what is so if no match is reached from the list
 abbrev pub IsLeftOver : Search → ℕ → Status → Type 0
-IsLeftOver e i Open = (at : ℕ) → e.start ≤ at → at < i + 1 → HasNoMatch e at
+IsLeftOver e i Open = (at : ℕ) → e.start ≤ at → at < i + 1 → HasNoMatchFrom e at
 IsLeftOver e i (Closed last) = IsFound e last
 
 -- the list and the status decide what the leftmost-first match is

@@ -3,7 +3,7 @@ use Rattle.std.specs.Prelude.{◌≡◌, ℕ, ◌+◌, ◌*◌, ◌<◌, ◌≤�
 use Rattle.std.specs.Option.{option_map}
 use Rattle.rsc_primitives.specs.Decoding.{IsCharBoundary}
 use Rattle.rsc_captures.specs.Captured.{Captured}
-use Rattle.rsc_captures.specs.Groups.{GroupLists, all_groups}
+use Rattle.rsc_captures.specs.Groups.{GroupLists, all_group_count}
 use Rattle.rsc_search.specs.declared.anchored.Anchored.TheVariants.{No}
 use Rattle.rsc_search.specs.Inputs.{InputParts}
 use Rattle.rsc_search.specs.declared.span.Span.{Span}
@@ -16,12 +16,12 @@ use Rattle.rsc_engine.specs.Ways.{last_in}
 use Rattle.rsc_engine.specs.GroupNumbers.{as_whole}
 use Rattle.rsc_engine.specs.PreferredWays.{IsPreferredWay}
 
--- no pattern goes on from the position, within the span
-abbrev pub NoneGoesOn : List Pattern → Search → ℕ → Type 0
-NoneGoesOn patterns e at = (other : Matched) → other.span.start ≡ at → ¬ (IsMatchIn patterns e other)
+-- no pattern goes from the position, within the span
+abbrev pub NoneGoesFrom : List Pattern → Search → ℕ → Type 0
+NoneGoesFrom patterns e at = (other : Matched) → other.span.start ≡ at → ¬ (IsMatchIn patterns e other)
 
--- of the patterns that go on from the match's start it is of the least one, goes that pattern's preferred way, and makes these records
-pub record IsPreferredOf (patterns : List Pattern) (lists : GroupLists) (e : Search) (found : Matched) (records : List (ℕ × ℕ)) : Type 0 where
+-- of the patterns that go from the match's start it is of the least one, goes that pattern's preferred way, and makes these records
+pub record IsPreferredOfPatterns (patterns : List Pattern) (lists : GroupLists) (e : Search) (found : Matched) (records : List (ℕ × ℕ)) : Type 0 where
   pub is_in : IsMatchIn patterns e found
   pub least : (other : Matched) → IsMatchIn patterns e other → other.span.start ≡ found.span.start → found.pattern ≤ other.pattern
   pub way : IsPreferredWay (subject_of e) (as_whole lists found.pattern is_in.pattern) (λ j. j ≤ e.end) found.span.start found.span.end records
@@ -36,17 +36,17 @@ abbrev pub recorded_span : List (ℕ × ℕ) → ℕ → Option Span
 recorded_span records slot =
     option_and_then (λ from. option_map (λ to. record { start = from; end = to }) (last_in records (slot + 1))) (last_in records slot)
 
--- the match begins where one may, it's the preferred one from there, and no pattern goes on from an earlier position of the span
-pub record IsFirstOf (patterns : List Pattern) (lists : GroupLists) (e : Search) (captures : Captured) (found : Matched) : Type 0 where
+-- the match begins where one may, it's the preferred one from there, and no pattern goes from an earlier position of the span
+pub record IsFirstOfPatterns (patterns : List Pattern) (lists : GroupLists) (e : Search) (captures : Captured) (found : Matched) : Type 0 where
   pub records : List (ℕ × ℕ)
   pub begins : MayBegin e found.span.start
-  pub earlier : (at : ℕ) → e.start ≤ at → at < found.span.start → NoneGoesOn patterns e at
-  pub preferred : IsPreferredOf patterns lists e found records
+  pub earlier : (at : ℕ) → e.start ≤ at → at < found.span.start → NoneGoesFrom patterns e at
+  pub preferred : IsPreferredOfPatterns patterns lists e found records
   pub hold : HoldRecords captures found records
 
--- no pattern goes on from where a match may begin
-abbrev pub HasNoneOf : List Pattern → Search → Type 0
-HasNoneOf patterns e = (at : ℕ) → MayBegin e at → NoneGoesOn patterns e at
+-- no pattern goes from where a match may begin
+abbrev pub HasNoneOfPatterns : List Pattern → Search → Type 0
+HasNoneOfPatterns patterns e = (at : ℕ) → MayBegin e at → NoneGoesFrom patterns e at
 
 -- the match is empty, and where the last one ended
 pub record Repeats (last : Option ℕ) (found : Matched) : Type 0 where
@@ -64,45 +64,45 @@ pub record PrefersThere (patterns : List Pattern) (lists : GroupLists) (e : Sear
   pub found : Matched
   pub records : List (ℕ × ℕ)
   pub start : found.span.start ≡ at
-  pub preferred : IsPreferredOf patterns lists e found records
+  pub preferred : IsPreferredOfPatterns patterns lists e found records
   pub is_such : IsSuch found
 
--- a position is left out exactly if no pattern goes on from it, or the preferred match there is empty, and where the last one ended or within a character
-abbrev pub IsLeftOutOf : List Pattern → GroupLists → Search → Option ℕ → ℕ → Type 0
-IsLeftOutOf patterns lists e last at =
-    NoneGoesOn patterns e at ⊎ (PrefersThere patterns lists e at (Repeats last) ⊎ PrefersThere patterns lists e at (Splits e))
+-- a position is left out exactly if no pattern goes from it, or the preferred match there is empty, and where the last one ended or within a character
+abbrev pub IsLeftOutOfPatterns : List Pattern → GroupLists → Search → Option ℕ → ℕ → Type 0
+IsLeftOutOfPatterns patterns lists e last at =
+    NoneGoesFrom patterns e at ⊎ (PrefersThere patterns lists e at (Repeats last) ⊎ PrefersThere patterns lists e at (Splits e))
 
 -- the next match may begin at the position: it's in the span, and if the search is anchored, at each earlier one the match would repeat the last one
-pub record MayBeNextOf (patterns : List Pattern) (lists : GroupLists) (e : Search) (last : Option ℕ) (at : ℕ) : Type 0 where
+pub record MayBeNextOfPatterns (patterns : List Pattern) (lists : GroupLists) (e : Search) (last : Option ℕ) (at : ℕ) : Type 0 where
   pub start : e.start ≤ at
   pub end : at ≤ e.end
   pub anchored : ¬ (e.mode ≡ No) → (earlier : ℕ) → e.start ≤ earlier → earlier < at → PrefersThere patterns lists e earlier (Repeats last)
 
 -- the match begins where the next one may, it's the preferred one from there, repeats and splits nothing, and each earlier position at which it may is left out
-pub record IsNextOf (patterns : List Pattern) (lists : GroupLists) (e : Search) (last : Option ℕ) (captures : Captured) (found : Matched) : Type 0 where
+pub record IsNextOfPatterns (patterns : List Pattern) (lists : GroupLists) (e : Search) (last : Option ℕ) (captures : Captured) (found : Matched) : Type 0 where
   pub records : List (ℕ × ℕ)
-  pub begins : MayBeNextOf patterns lists e last found.span.start
-  pub preferred : IsPreferredOf patterns lists e found records
+  pub begins : MayBeNextOfPatterns patterns lists e last found.span.start
+  pub preferred : IsPreferredOfPatterns patterns lists e found records
   pub no_repeat : ¬ (Repeats last found)
   pub splits_none : ¬ (Splits e found)
-  pub left_out : (at : ℕ) → at < found.span.start → MayBeNextOf patterns lists e last at → IsLeftOutOf patterns lists e last at
+  pub left_out : (at : ℕ) → at < found.span.start → MayBeNextOfPatterns patterns lists e last at → IsLeftOutOfPatterns patterns lists e last at
   pub hold : HoldRecords captures found records
 
 -- each position at which the next match may begin is left out
-abbrev pub IsOverOf : List Pattern → GroupLists → Search → Option ℕ → Type 0
-IsOverOf patterns lists e last = (at : ℕ) → MayBeNextOf patterns lists e last at → IsLeftOutOf patterns lists e last at
+abbrev pub IsOverOfPatterns : List Pattern → GroupLists → Search → Option ℕ → Type 0
+IsOverOfPatterns patterns lists e last = (at : ℕ) → MayBeNextOfPatterns patterns lists e last at → IsLeftOutOfPatterns patterns lists e last at
 
 -- in every input, the first match and the next one of the program are those of the patterns
-pub record IsBuiltOf {W : Type 0} (chars : W → ℕ → Bool) (program : Compiled W) (patterns : List Pattern) : Type 0 where
+pub record AnswersAs {W : Type 0} (chars : W → ℕ → Bool) (program : Compiled W) (patterns : List Pattern) : Type 0 where
   pub first : (input : InputParts) (captures : Captured) (found : Matched) → IsFirstMatch (search_in chars program input) captures found →
-      IsFirstOf patterns program.automaton.groups (search_in chars program input) captures found
-  pub none : (input : InputParts) → HasNoFirstMatch (search_in chars program input) → HasNoneOf patterns (search_in chars program input)
+      IsFirstOfPatterns patterns program.automaton.groups (search_in chars program input) captures found
+  pub none : (input : InputParts) → HasNoFirstMatch (search_in chars program input) → HasNoneOfPatterns patterns (search_in chars program input)
   pub next : (input : InputParts) (last : Option ℕ) (captures : Captured) (found : Matched) →
       IsNextMatch (search_in chars program input) last captures found →
-      IsNextOf patterns program.automaton.groups (search_in chars program input) last captures found
+      IsNextOfPatterns patterns program.automaton.groups (search_in chars program input) last captures found
   pub over : (input : InputParts) (last : Option ℕ) → IsOver (search_in chars program input) last →
-      IsOverOf patterns program.automaton.groups (search_in chars program input) last
+      IsOverOfPatterns patterns program.automaton.groups (search_in chars program input) last
 
 -- the captures are of the program's groups, and have a slot for each
 abbrev pub HasSlotsOf : {W : Type 0} → Compiled W → Captured → Type 0
-HasSlotsOf program captures = (captures.groups ≡ program.automaton.groups) × (length captures.offsets ≡ 2 * all_groups program.automaton.groups)
+HasSlotsOf program captures = (captures.groups ≡ program.automaton.groups) × (length captures.offsets ≡ 2 * all_group_count program.automaton.groups)

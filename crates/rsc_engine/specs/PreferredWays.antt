@@ -4,43 +4,43 @@ use Rattle.std.specs.List.{AllPairs}
 use Rattle.rsc_engine.specs.Patterns.{Pattern, Empty, Never, Class, Literal, Assertion, Then, Either, Repeat, Group, Subject, may_be_empty}
 use Rattle.rsc_engine.specs.Courses.{Course, Skip, Dead, Byte, Here, After, Choose, Turn, Again, Within, Stand, fresh, IsFirstOnce}
 
--- the part or nothing: greedy, the part is preferred
-abbrev pub may_come : Bool → ℕ → Course → Course
-may_come true w c = Choose w c Skip
-may_come false w c = Choose w Skip c
+-- the course c or nothing, by the choice w: greedy, c is preferred
+abbrev pub optional_course : Bool → ℕ → Course → Course
+optional_course true w c = Choose w c Skip
+optional_course false w c = Choose w Skip c
 
--- a byte of one of the ranges
+-- c is a byte of one of the ranges: a choice before each but the last
 abbrev pub IsOfRanges : List (ℕ × ℕ) → Course → Type 0
 IsOfRanges [] c = c ≡ Dead
 IsOfRanges (r ∷ []) c = c ≡ Byte r.0 r.1
 IsOfRanges (r ∷ (q ∷ rest)) c = (w : ℕ) × (d : Course) × (c ≡ Choose w (Byte r.0 r.1) d) × IsOfRanges (q ∷ rest) d
 
--- these bytes
+-- the course of these bytes, one after the other
 abbrev pub bytes_in_order : List ℕ → Course
 bytes_in_order [] = Skip
 bytes_in_order (b ∷ rest) = After (Byte b b) (bytes_in_order rest)
 
--- n copies
+-- c is n courses, one after the other, of each of which `Is` holds
 abbrev pub AreCopies : (Course → Type 0) → ℕ → Course → Type 0
 AreCopies Is zero c = c ≡ Skip
 AreCopies Is (suc n) c = (d : Course) × (e : Course) × (c ≡ After d e) × Is d × AreCopies Is n e
 
--- at most n copies, each after a choice of its own
+-- c is at most n courses, each entered by a choice of its own, of each of which `Is` holds
 abbrev pub AreOptionalCopies : (Course → Type 0) → Bool → ℕ → Course → Type 0
 AreOptionalCopies Is greedy zero c = c ≡ Skip
-AreOptionalCopies Is greedy (suc n) c = (w : ℕ) × (d : Course) × (e : Course) × (c ≡ may_come greedy w (After d e)) × Is d
+AreOptionalCopies Is greedy (suc n) c = (w : ℕ) × (d : Course) × (e : Course) × (c ≡ optional_course greedy w (After d e)) × Is d
     × AreOptionalCopies Is greedy n e
 
--- once or more
+-- c is a course of which `Is` holds, once or more
 abbrev pub IsAgain : (Course → Type 0) → Bool → Course → Type 0
 IsAgain Is greedy c = (w : ℕ) × (d : Course) × (c ≡ Again w greedy d) × Is d
 
--- any number of times: a loop over what may be empty is entered by a choice of its own, another one by its turn
+-- c is a course of which `Is` holds, any number of times: a loop over what may be empty is entered by a choice of its own, another one by its turn
 abbrev pub IsStar : (Course → Type 0) → Bool → Bool → Course → Type 0
-IsStar Is true greedy c = (w : ℕ) × (d : Course) × (c ≡ may_come greedy w d) × IsAgain Is greedy d
+IsStar Is true greedy c = (w : ℕ) × (d : Course) × (c ≡ optional_course greedy w d) × IsAgain Is greedy d
 IsStar Is false greedy c = (w : ℕ) × (d : Course) × (c ≡ Turn w greedy d) × Is d
 
--- the pattern with its copies written out, in which the choices may have any numbers
+-- c is the pattern with its copies written out, in which the choices may have any numbers
 abbrev pub IsCourseOf : Pattern → Course → Type 0
 IsCourseOf Empty c = c ≡ Skip
 IsCourseOf Never c = c ≡ Dead
@@ -58,7 +58,7 @@ IsCourseOf (Repeat (suc min) (Some max) greedy a) c =
     (d : Course) × (e : Course) × (c ≡ After d e) × AreCopies (IsCourseOf a) (suc min) d × AreOptionalCopies (IsCourseOf a) greedy (max - suc min) e
 IsCourseOf (Group slot a) c = (d : Course) × (c ≡ Within slot d) × IsCourseOf a d
 
--- the numbers of its choices
+-- the numbers of a course's choices
 abbrev pub choices : Course → List ℕ
 choices Skip = []
 choices Dead = []

@@ -4,7 +4,7 @@ use Rattle.std.specs.List.{All, Contains}
 use Rattle.rsc_look.specs.Keeping.{AgreesWithAscii}
 use Rattle.rsc_captures.specs.Groups.{GroupLists}
 use Rattle.rsc_nfa.specs.declared.state.State.{State}
-use Rattle.rsc_nfa.specs.Classes.{KeepsRuns, has_unicode}
+use Rattle.rsc_nfa.specs.Classes.{KeepsRuns, has_unicode_assertion}
 use Rattle.rsc_nfa.specs.StateFaults.{AreFaultless}
 use Rattle.rsc_nfa.specs.Steps.{IsStep}
 use Rattle.rsc_alphabet.specs.Partitions.{LastClassIsGreatest}
@@ -79,16 +79,16 @@ Alike classes _ _ = ⊥
 
 -- no byte, or one below 128, if an assertion looks at characters
 abbrev pub IsPlainUnit : Machine → Option ℕ → Type 0
-IsPlainUnit m unit = has_unicode m.states ≡ true → IfSome unit (λ b. b < 128)
+IsPlainUnit m unit = has_unicode_assertion m.states ≡ true → IfSome unit (λ b. b < 128)
 
 -- what a DFA is made from: the classes keep runs, and if an assertion looks at characters, no class has bytes on both sides of 128
 pub record IsPlan (m : Machine) (classes : List ℕ) (width : ℕ) (unicode : Bool) : Type 0 where
   pub groups : GroupLists
   pub faultless : AreFaultless groups m.states
   pub there : m.start_state < length m.states
-  pub looks : unicode ≡ has_unicode m.states
+  pub looks : unicode ≡ has_unicode_assertion m.states
   pub keeps : KeepsRuns classes m.states m.terminator m.word_chars
   pub agreed : AgreesWithAscii m.word_chars
-  pub parted : has_unicode m.states ≡ true → (b c : ℕ) → b < 128 → c < 256 → slice_index classes b ≡ slice_index classes c → c < 128
+  pub parted : has_unicode_assertion m.states ≡ true → (b c : ℕ) → b < 128 → c < 256 → slice_index classes b ≡ slice_index classes c → c < 128
   pub columns : width ≡ symbol_count classes
   pub bounded : LastClassIsGreatest classes

@@ -21,7 +21,7 @@ size_of (Repeat min None greedy a) = size_of_loop min (may_be_empty a) (size_of 
 size_of (Repeat min (Some max) greedy a) = min * size_of a + (max - min) * (size_of a + 1)
 size_of (Group slot a) = size_of a + 2
 
--- how many states a program has: for each pattern two records of its match and its end, and a choice before each but the last
+-- how many states a program has: for each pattern two that record where its match begins and ends and one that accepts, and a choice before each but the last
 abbrev pub size_of_program : List Pattern → ℕ
 size_of_program patterns = sum_by (λ p. size_of p + 3) patterns + (length patterns - 1)
 

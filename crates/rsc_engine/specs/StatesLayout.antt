@@ -1,6 +1,6 @@
 -- What the states of a part or of patterns name, and which assertions they have.
 use Rattle.std.specs.Prelude.{◌≡◌, ℕ, ◌*◌, ◌<◌, ◌≤◌, Bool, true, false, List, length, slice_get, Some}
-use Rattle.rsc_captures.specs.Groups.{GroupLists, all_groups}
+use Rattle.rsc_captures.specs.Groups.{GroupLists, all_group_count}
 use Rattle.rsc_nfa.specs.declared.state.State.{State}
 use Rattle.rsc_nfa.specs.declared.state.State.TheVariants.{ByteRange, Assert, Fork, Capture, Accept}
 use Rattle.rsc_nfa.specs.Classes.{asserts}
@@ -58,4 +58,4 @@ pub record AreSound (most count : ℕ) (asked : Look → Bool) (low high first :
 
 -- the added states name slots and patterns of these groups
 abbrev pub AreSoundIn : GroupLists → (Look → Bool) → List State → List State → ℕ → List State → Type 0
-AreSoundIn groups asked old new first states = AreSound (2 * all_groups groups) (length groups) asked (length old) (length new) first states
+AreSoundIn groups asked old new first states = AreSound (2 * all_group_count groups) (length groups) asked (length old) (length new) first states

@@ -4,11 +4,11 @@ ghost use Rattle.rsc_captures.specs.Groups.{groups_in};
 ghost use Rattle.rsc_engine.specs.declared.error.Error.TheVariants.{OutOfMemory};
 ghost use Rattle.rsc_engine.specs.Patterns as patterns;
 ghost use Rattle.rsc_engine.specs.FirstEnds.{loops_take_bytes};
-ghost use Rattle.rsc_engine.specs.GroupNumbers.{count_groups};
-ghost use Rattle.rsc_engine.specs.Patterns.{Empty, Never, Class, Literal, Assertion, Then, Either, Group, in_order, one_of};
+ghost use Rattle.rsc_engine.specs.GroupNumbers.{group_count_in};
+ghost use Rattle.rsc_engine.specs.Patterns.{Empty, Never, Class, Literal, Assertion, Then, Either, Group, sequence, one_of};
 ghost use Rattle.rsc_engine.specs.Sizes.{most_states};
 ghost use Rattle.rsc_engine.specs.Trees.{pattern_in};
-ghost use Rattle.rsc_engine.specs.Parts.{pattern_of, patterns_of, groups_of_part, groups_of_pattern, lists_of, limit_of};
+ghost use Rattle.rsc_engine.specs.Parts.{pattern_of, patterns_of, groups_of_part, groups_as_pattern, group_lists_of, limit_of};
 
 mod build;
 mod compile;
@@ -65,7 +65,7 @@ impl<'n> Builder<'n> {
     /// A builder with no pattern. Its programs may have as many states as there are numbers for.
     pub fn new(alloc: Global) -> Builder<'n>
         ensures patterns { patterns_of result ≡ [] }
-        ensures groups { lists_of result ≡ [] }
+        ensures groups { group_lists_of result ≡ [] }
         ensures limit { limit_of result ≡ most_states }
     {
         Builder {
@@ -96,7 +96,7 @@ impl<'n> Builder<'n> {
     pub fn limit_states(&mut self, most: usize)
         ensures value { limit_of self.new ≡ min most most_states }
         ensures kept_patterns { patterns_of self.new ≡ patterns_of self.old }
-        ensures kept_groups { lists_of self.new ≡ lists_of self.old }
+        ensures kept_groups { group_lists_of self.new ≡ group_lists_of self.old }
     {
         self.limit = most;
     }
@@ -164,6 +164,10 @@ impl<'n> Builder<'n> {
     }
 
     /// A part that matches one part and then the other.
+    ///
+    /// # Errors
+    ///
+    /// Out of memory.
     pub fn then(&self, one: Part<'n>, other: Part<'n>) -> Result<Part<'n>, Error>
         ensures part { IfOk result (λ part. pattern_of part ≡ Then (pattern_of one.entry) (pattern_of other.entry)) }
         ensures groups { IfOk result (λ part. groups_of_part part ≡ groups_of_part one.entry ++ groups_of_part other.entry) }
@@ -189,7 +193,7 @@ impl<'n> Builder<'n> {
     ///
     /// Out of memory.
     pub fn concat(&self, parts: Vec<Part<'n>>) -> Result<Part<'n>, Error>
-        ensures part { IfOk result (λ part. pattern_of part ≡ in_order (map pattern_of parts.entry.items)) }
+        ensures part { IfOk result (λ part. pattern_of part ≡ sequence (map pattern_of parts.entry.items)) }
         ensures groups { IfOk result (λ part. groups_of_part part ≡ flat_map groups_of_part parts.entry.items) }
         ensures refused { IfErr result (λ e. e ≡ OutOfMemory) }
     {
@@ -285,12 +289,16 @@ impl<'n> Builder<'n> {
     }
 
     /// Adds a pattern. Of two that match from a position the earlier is preferred.
+    ///
+    /// # Errors
+    ///
+    /// Out of memory; the patterns are as before.
     pub fn add_pattern(&mut self, whole: Part<'n>) -> Result<(), Error>
         ensures patterns { OnOk result (patterns_of self.new ≡ patterns_of self.old ++ pattern_of whole.entry ∷ []) }
-        ensures groups { OnOk result (lists_of self.new ≡ lists_of self.old ++ groups_of_pattern whole.entry ∷ []) }
+        ensures groups { OnOk result (group_lists_of self.new ≡ group_lists_of self.old ++ groups_as_pattern whole.entry ∷ []) }
         ensures refused { IfErr result (λ e. e ≡ OutOfMemory) }
         ensures kept_patterns { OnErr result (patterns_of self.new ≡ patterns_of self.old) }
-        ensures kept_groups { OnErr result (lists_of self.new ≡ lists_of self.old) }
+        ensures kept_groups { OnErr result (group_lists_of self.new ≡ group_lists_of self.old) }
         ensures kept_limit { limit_of self.new ≡ limit_of self.old }
     {
         self.patterns.push(whole)?;
@@ -301,7 +309,7 @@ impl<'n> Builder<'n> {
     fn taken_apart(&self, parts: Vec<Part<'n>>) -> Result<(Vec<Tree>, Vec<Option<&'n str>>), Error>
         ensures trees { IfOk result (λ both. map pattern_in both.0.items ≡ map pattern_of parts.entry.items) }
         ensures names { IfOk result (λ both. groups_in both.1.items ≡ flat_map groups_of_part parts.entry.items) }
-        ensures count { IfOk result (λ both. length both.1.items ≡ count_groups (in_order (map pattern_of parts.entry.items))) }
+        ensures count { IfOk result (λ both. length both.1.items ≡ group_count_in (sequence (map pattern_of parts.entry.items))) }
         ensures refused { IfErr result (λ e. e ≡ OutOfMemory) }
     {
         let mut trees = Vec::new(self.alloc);
@@ -318,7 +326,7 @@ impl<'n> Builder<'n> {
     fn leaf(&self, tree: Tree, may_be_empty: bool) -> Part<'n>
         requires emptiness { may_be_empty ≡ patterns.may_be_empty (pattern_in tree) }
         requires loops { loops_take_bytes (pattern_in tree) ≡ true }
-        requires no_groups { count_groups (pattern_in tree) ≡ 0 }
+        requires no_groups { group_count_in (pattern_in tree) ≡ 0 }
         ensures part { pattern_of result ≡ pattern_in tree }
         ensures groups { groups_of_part result ≡ [] }
     {

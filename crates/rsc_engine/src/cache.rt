@@ -51,7 +51,7 @@ impl<'p, W: WordClass + AsciiCompatible> Cache<'p, W> {
     ///
     /// # Errors
     ///
-    /// Out of memory.
+    /// Out of memory. Today it asks for none.
     pub fn new(alloc: Global, program: &'p Program<W>) -> Result<Cache<'p, W>, Error>
         ensures made { IfOk result (λ c. c ≡ program.now) }
         ensures refused { IfErr result (λ e. e ≡ OutOfMemory) }
@@ -67,7 +67,7 @@ impl<'p, W: WordClass + AsciiCompatible> Cache<'p, W> {
     ///
     /// # Errors
     ///
-    /// Out of memory. Later searches still work.
+    /// Out of memory, as of [`find`](crate::find). Later searches still work.
     pub fn find(
         &mut self,
         input: &Input<'_>,
@@ -90,7 +90,7 @@ impl<'p, W: WordClass + AsciiCompatible> Cache<'p, W> {
     ///
     /// # Errors
     ///
-    /// Out of memory. The cache is dropped then.
+    /// Out of memory, and the cache is dropped then. Today it asks for none.
     ///
     /// # Examples
     ///

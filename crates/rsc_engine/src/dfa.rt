@@ -10,7 +10,7 @@ ghost use Rattle.rsc_primitives.specs.Indices.{max_index};
 ghost use Rattle.rsc_search.specs.declared.anchored.Anchored.TheVariants.{No};
 ghost use Rattle.rsc_engine.specs.declared.error.Error.TheVariants.{OutOfMemory};
 ghost use Rattle.rsc_engine.specs.Searches.{search_in};
-ghost use Rattle.rsc_engine.specs.Runs.{HasNoMatch};
+ghost use Rattle.rsc_engine.specs.Runs.{HasNoMatchFrom};
 ghost use Rattle.rsc_engine.specs.Preferred.{HasNoFirstMatch, IsFirstMatch, IsCleared, IsInSpan};
 ghost use Rattle.rsc_engine.specs.Ends.{IsEarliestEnd, IsLeftmostEnd};
 ghost use Rattle.rsc_engine.specs.RowsLayout.{machine, IsPlan};
@@ -142,7 +142,8 @@ impl<'p, W: WordClass> Model for Dfa<'p, W> {
 
 impl<'p, W: WordClass + AsciiCompatible> Dfa<'p, W> {
     /// The DFA of a program, with no rows. It keeps at most that many rows, and one at least: when it has as many and a search needs
-    /// another, it drops them all and goes on from the new one.
+    /// another, it drops them all and goes on from the new one. Only as long as a search reads back what it kept of a match's bytes, to find
+    /// the match's groups, there may be more.
     pub fn new(alloc: Global, program: &'p Program<W>, most_rows: usize) -> Dfa<'p, W>
         ensures { result ≡ program.now }
     {
@@ -324,7 +325,7 @@ impl<'p, W: WordClass + AsciiCompatible> Dfa<'p, W> {
     fn first_begin(&self, input: &Input<'_>) -> usize
         ensures low { input.now.span.start ≤ result }
         ensures high { result ≤ input.now.span.end + 1 }
-        ensures none { (at : ℕ) → input.now.span.start ≤ at → at < result → HasNoMatch (search_in W.word_chars self.now input.now) at }
+        ensures none { (at : ℕ) → input.now.span.start ≤ at → at < result → HasNoMatchFrom (search_in W.word_chars self.now input.now) at }
         ensures anchored { ¬ (input.now.anchored ≡ No) → result ≡ input.now.span.start }
     {
         let start = input.start();

@@ -20,7 +20,7 @@ use std::alloc::Global;
 ///
 /// # Errors
 ///
-/// Out of memory.
+/// Out of memory; so it is, too, where a program of more states than 2,147,483,646 has a match.
 ///
 /// # Examples
 ///

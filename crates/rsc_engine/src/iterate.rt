@@ -6,7 +6,7 @@ ghost use Rattle.rsc_primitives.specs.Decoding.{IsCharBoundary};
 ghost use Rattle.rsc_engine.specs.declared.error.Error.TheVariants.{OutOfMemory};
 ghost use Rattle.rsc_engine.specs.Searches.{search_in};
 ghost use Rattle.rsc_engine.specs.Preferred.{IsFirstMatch, HasNoFirstMatch, IsCleared, IsInSpan};
-ghost use Rattle.rsc_engine.specs.NextMatches.{IsOver, IsNextMatch, from_start};
+ghost use Rattle.rsc_engine.specs.NextMatches.{IsOver, IsNextMatch, with_start};
 ghost use Rattle.rsc_engine.specs.AheadLayout.{IsRestOf};
 
 use crate::dfa::Ahead;
@@ -67,7 +67,7 @@ impl<'p, 'h, W: WordClass + AsciiCompatible> Matches<'p, 'h, W> {
     ///
     /// # Errors
     ///
-    /// Out of memory.
+    /// Out of memory. Today it asks for none.
     pub fn new(
         alloc: Global,
         program: &'p Program<W>,
@@ -120,14 +120,14 @@ impl<'p, 'h, W: WordClass + AsciiCompatible> Matches<'p, 'h, W> {
     ///
     /// # Errors
     ///
-    /// Out of memory. The next call looks for the same match.
+    /// Out of memory, as of [`find`](crate::find). The next call looks for the same match.
     pub fn next(&mut self, captures: &mut Captures) -> Result<Option<Match>, Error>
         ensures found { IfOk result (λ found. IfSome found (IsNextMatch (search_in W.word_chars self.old.program self.old.input) self.old.last captures.new)) }
         ensures none { IfOk result (λ found. IfNone found (IsOver (search_in W.word_chars self.old.program self.old.input) self.old.last)) }
         ensures advanced { IfOk result (λ found. IfSome found (λ m.
-            self.new ≡ record self.old { input = from_start self.old.input m.span.end; last = Some m.span.end })) }
+            self.new ≡ record self.old { input = with_start self.old.input m.span.end; last = Some m.span.end })) }
         ensures exhausted { IfOk result (λ found. IfNone found
-            (self.new ≡ record self.old { input = from_start self.old.input (self.old.input.span.end + 1) })) }
+            (self.new ≡ record self.old { input = with_start self.old.input (self.old.input.span.end + 1) })) }
         ensures kept { OnErr result (self.new ≡ self.old) }
         ensures refused { IfErr result (λ e. e ≡ OutOfMemory) }
         ensures order { IfOk result (λ found. IfSome found (λ m. ForSome self.old.last (λ end. end < m.span.end))) }
@@ -164,8 +164,8 @@ impl<'p, 'h, W: WordClass + AsciiCompatible> Iteration<'p, 'h, W> {
         ensures found { IfOk result (λ found. IfSome found
             (IsNextMatch (search_in W.word_chars self.old.program.now self.old.input) self.old.last_end captures.new)) }
         ensures none { IfOk result (λ found. IfNone found (IsOver (search_in W.word_chars self.old.program.now self.old.input) self.old.last_end)) }
-        ensures advanced { IfOk result (λ found. IfSome found (λ m. self.new.input ≡ from_start self.old.input m.span.end)) }
-        ensures exhausted { IfOk result (λ found. IfNone found (self.new.input ≡ from_start self.old.input (self.old.input.span.end + 1))) }
+        ensures advanced { IfOk result (λ found. IfSome found (λ m. self.new.input ≡ with_start self.old.input m.span.end)) }
+        ensures exhausted { IfOk result (λ found. IfNone found (self.new.input ≡ with_start self.old.input (self.old.input.span.end + 1))) }
         ensures kept { OnErr result (self.new.input ≡ self.old.input) }
         ensures program { self.new.program ≡ self.old.program }
         ensures refused { IfErr result (λ e. e ≡ OutOfMemory) }
@@ -213,7 +213,7 @@ impl<'p, 'h, W: WordClass + AsciiCompatible> Iteration<'p, 'h, W> {
         ensures found { IfOk result (λ found. IfSome found (IsFirstMatch (search_in W.word_chars self.old.program.now self.old.input) captures.new)) }
         ensures none { IfOk result (λ found. IfNone found (HasNoFirstMatch (search_in W.word_chars self.old.program.now self.old.input))) }
         ensures within { IfOk result (λ found. IfSome found (IsInSpan self.old.input)) }
-        ensures advanced { IfOk result (λ found. IfSome found (λ m. self.new.input ≡ from_start self.old.input m.span.end)) }
+        ensures advanced { IfOk result (λ found. IfSome found (λ m. self.new.input ≡ with_start self.old.input m.span.end)) }
         ensures exhausted { IfOk result (λ found. IfNone found (self.new.input ≡ self.old.input)) }
         ensures kept { OnErr result (self.new.input ≡ self.old.input) }
         ensures program { self.new.program ≡ self.old.program }
@@ -243,7 +243,7 @@ impl<'p, 'h, W: WordClass + AsciiCompatible> Iteration<'p, 'h, W> {
         ensures found { IfOk result (λ found. IfSome found (IsFirstMatch (search_in W.word_chars self.old.program.now self.old.input) captures.new)) }
         ensures none { IfOk result (λ found. IfNone found (HasNoFirstMatch (search_in W.word_chars self.old.program.now self.old.input))) }
         ensures within { IfOk result (λ found. IfSome found (IsInSpan self.old.input)) }
-        ensures advanced { IfOk result (λ found. IfSome found (λ m. self.new.input ≡ from_start self.old.input m.span.end)) }
+        ensures advanced { IfOk result (λ found. IfSome found (λ m. self.new.input ≡ with_start self.old.input m.span.end)) }
         ensures exhausted { IfOk result (λ found. IfNone found (self.new.input ≡ self.old.input)) }
         ensures kept { OnErr result (self.new.input ≡ self.old.input) }
         ensures program { self.new.program ≡ self.old.program }
@@ -291,7 +291,7 @@ impl<'p, 'h, W: WordClass + AsciiCompatible> Iteration<'p, 'h, W> {
         found.is_empty() && self.last_end == Some(found.end())
     }
 
-    // Whether the program is in UTF-8 mode, and a match is empty and within a character.
+    // Whether the program takes haystacks for text, and a match is empty and within a character.
     fn splits(&self, found: &Match) -> bool
         ensures yes { result ≡ true → (self.now.program.now.utf8 ≡ true) × (found.now.span.start ≡ found.now.span.end)
             × (¬ (IsCharBoundary self.now.input.haystack found.now.span.end)) }

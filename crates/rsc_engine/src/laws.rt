@@ -11,8 +11,8 @@ ghost use Rattle.rsc_search.specs.declared.anchored.Anchored.TheVariants.{No};
 ghost use Rattle.rsc_engine.specs.Searches.{Search, Compiled, search_in};
 ghost use Rattle.rsc_engine.specs.Patterns.{Pattern, Group, Subject, Goes, may_be_empty, subject_of, IsMatchIn, Recognizes};
 ghost use Rattle.rsc_engine.specs.Runs.{IsMatchRun};
-ghost use Rattle.rsc_engine.specs.Preferred.{IsOnce, IsOnceAtForks, IsPreferred, IsLeftmostFirst, IsFirstMatch, MayBegin, HasNoFirstMatch};
-ghost use Rattle.rsc_engine.specs.NextMatches.{IsNext, IsOver, IsNextMatch, MayBeNext, IsRepeatAt, IsSplitAt, MatchesLeft, AreAll, calls_left};
+ghost use Rattle.rsc_engine.specs.Preferred.{HasNoPlaceTwice, HasNoForkTwice, IsPreferred, IsLeftmostFirst, IsFirstMatch, MayBegin, HasNoFirstMatch};
+ghost use Rattle.rsc_engine.specs.NextMatches.{IsNextRun, IsOver, IsNextMatch, MayBeNext, IsRepeatAt, SplitsAt, MatchesLeft, AreAllMatches, calls_left};
 ghost use Rattle.rsc_engine.specs.Ends.{IsEarliestEnd, IsLeftmostEnd};
 ghost use Rattle.rsc_engine.specs.GroupEnds.{RecordsEnds};
 ghost use Rattle.rsc_engine.specs.GroupOrder.{ClosesGroups};
@@ -22,7 +22,7 @@ ghost use Rattle.rsc_engine.specs.Ways.{Point, last_in, GoesWith};
 ghost use Rattle.rsc_engine.specs.FirstWays.{IsFirstWay};
 ghost use Rattle.rsc_engine.specs.GroupNumbers.{IsGroupOf, as_whole};
 ghost use Rattle.rsc_engine.specs.PreferredWays.{IsPreferredWay};
-ghost use Rattle.rsc_engine.specs.PatternMatches.{HoldRecords, recorded_span, IsFirstOf, IsNextOf, IsOverOf};
+ghost use Rattle.rsc_engine.specs.PatternMatches.{HoldRecords, recorded_span, IsFirstOfPatterns, IsNextOfPatterns, IsOverOfPatterns};
 
 use rsc_look::WordClass;
 
@@ -38,8 +38,8 @@ pub fn at_most_one_first_match()
 {}
 
 /// A run to a match comes to no place twice exactly if it makes no choice twice at one position.
-pub fn only_choices_are_made_once()
-    ensures { (search : Search) (from : ℕ × ℕ) (run : List (ℕ × ℕ)) → IsMatchRun search from run → IsOnce run ↔ IsOnceAtForks search.states run }
+pub fn no_place_twice_is_no_fork_twice()
+    ensures { (search : Search) (from : ℕ × ℕ) (run : List (ℕ × ℕ)) → IsMatchRun search from run → HasNoPlaceTwice run ↔ HasNoForkTwice search.states run }
 {}
 
 /// A pattern has at most one preferred way from a position, whatever numbers its choices have.
@@ -52,8 +52,8 @@ pub fn at_most_one_preferred_way()
 
 /// There is at most one next match, and none if the iteration is over.
 pub fn at_most_one_next_match()
-    ensures next { (search : Search) (last : Option ℕ) (one other : List (ℕ × ℕ)) → IsNext search last one → IsNext search last other → one ≡ other }
-    ensures over { (search : Search) (last : Option ℕ) (run : List (ℕ × ℕ)) → IsOver search last → ¬ (IsNext search last run) }
+    ensures next { (search : Search) (last : Option ℕ) (one other : List (ℕ × ℕ)) → IsNextRun search last one → IsNextRun search last other → one ≡ other }
+    ensures over { (search : Search) (last : Option ℕ) (run : List (ℕ × ℕ)) → IsOver search last → ¬ (IsNextRun search last run) }
 {}
 
 /// A match determines its captures: two that are first, or next, in captures over the same groups with as many slots are one, and the captures hold the same.
@@ -71,7 +71,7 @@ pub fn an_iteration_ends()
 
 /// There is at most one list of all matches of what is left.
 pub fn at_most_one_list_of_all_matches<W: WordClass>()
-    ensures { (left : MatchesLeft W) (one other : List Matched) → AreAll W.word_chars left one → AreAll W.word_chars left other → one ≡ other }
+    ensures { (left : MatchesLeft W) (one other : List Matched) → AreAllMatches W.word_chars left one → AreAllMatches W.word_chars left other → one ≡ other }
 {}
 
 /// Each offset that a match leaves in a slot is within its span.
@@ -105,11 +105,11 @@ pub fn a_next_match_is_of_a_pattern<W: WordClass>()
         (found other : Matched) → Recognizes W.word_chars program patterns → IsNextMatch (search_in W.word_chars program input) last captures found →
         other.span.start < found.span.start → MayBeNext (search_in W.word_chars program input) last other.span.start →
         IsMatchIn patterns (search_in W.word_chars program input) other →
-        IsRepeatAt (search_in W.word_chars program input) last other.span.start ⊎ IsSplitAt (search_in W.word_chars program input) other.span.start }
+        IsRepeatAt (search_in W.word_chars program input) last other.span.start ⊎ SplitsAt (search_in W.word_chars program input) other.span.start }
     ensures over { (program : Compiled W) (patterns : List Pattern) (input : InputParts) (last : Option ℕ) (other : Matched) →
         Recognizes W.word_chars program patterns → IsOver (search_in W.word_chars program input) last →
         MayBeNext (search_in W.word_chars program input) last other.span.start → IsMatchIn patterns (search_in W.word_chars program input) other →
-        IsRepeatAt (search_in W.word_chars program input) last other.span.start ⊎ IsSplitAt (search_in W.word_chars program input) other.span.start }
+        IsRepeatAt (search_in W.word_chars program input) last other.span.start ⊎ SplitsAt (search_in W.word_chars program input) other.span.start }
 {}
 
 /// Which of several patterns a first or next match is of: the one with the least number, if more than one that the input allows matches from its start
@@ -126,7 +126,7 @@ pub fn a_match_is_of_the_least_pattern<W: WordClass>()
 {}
 
 /// A match of a pattern that may not be empty has a byte.
-pub fn patterns_take_bytes()
+pub fn nonempty_patterns_take_bytes()
     ensures { (x : Subject) (p : Pattern) (i j : ℕ) → may_be_empty p ≡ false → Goes x p i j → i < j }
 {}
 
@@ -143,7 +143,7 @@ pub fn anchored_matches_are_side_by_side<W: WordClass>()
 
 /// If the search isn't anchored and no pattern may be empty, an iteration leaves out only matches that begin within another: no match begins between the
 /// last one and the next one, and none is left when the iteration is over.
-pub fn no_match_is_left_out<W: WordClass>()
+pub fn only_overlapping_matches_are_left_out<W: WordClass>()
     ensures next { (program : Compiled W) (patterns : List Pattern) (input : InputParts) (last : Option ℕ) (captures : Captured) (found other : Matched) →
         Recognizes W.word_chars program patterns → list_any may_be_empty patterns ≡ false → input.anchored ≡ No →
         IsNextMatch (search_in W.word_chars program input) last captures found → other.span.start < found.span.start →
@@ -190,7 +190,7 @@ pub fn a_match_ends_at_its_first_end<W: WordClass>()
 {}
 
 /// Which match a leftmost end is of: the one of the least pattern, among the matches that begin first. It is this pattern's first end, if its loops take bytes.
-pub fn a_leftmost_end_is_of_the_first_match<W: WordClass>()
+pub fn a_leftmost_end_is_of_the_least_pattern<W: WordClass>()
     ensures { (program : Compiled W) (patterns : List Pattern) (input : InputParts) (end : ℕ) →
         Recognizes W.word_chars program patterns → PrefersLesser W.word_chars program → PrefersFirstEnds W.word_chars program patterns →
         IsLeftmostEnd (search_in W.word_chars program input) end →
@@ -257,19 +257,23 @@ pub fn captures_are_of_the_first_way<W: WordClass>()
         (records : List (ℕ × ℕ)) × IsFirstWay (subject_of (search_in W.word_chars program input)) (as_whole program.automaton.groups found.pattern p)
         (λ j. j ≤ input.span.end) (found.span.start, []) (found.span.end, records)
         × ((slot : ℕ) → slot < length captures.offsets → slice_index_or captures.offsets slot None ≡ last_in records slot) }
-    ensures first_of_any { (program : Compiled W) (patterns : List Pattern) (input : InputParts) (captures : Captured) (found : Matched)
+    ensures one { (x : Subject) (p : Pattern) (end : ℕ) (m n k : Point) → IsFirstWay x p (λ l. l ≤ end) m n → IsFirstWay x p (λ l. l ≤ end) m k → n ≡ k }
+{}
+
+/// The slots of a first match and of a next one hold what some way of its pattern records, also where its loops may take no byte.
+pub fn captures_are_of_a_way<W: WordClass>()
+    ensures first { (program : Compiled W) (patterns : List Pattern) (input : InputParts) (captures : Captured) (found : Matched)
         (p : Pattern) → RecordsWays W.word_chars program patterns → IsFirstMatch (search_in W.word_chars program input) captures found →
         slice_get patterns found.pattern ≡ Some p →
         (records : List (ℕ × ℕ)) × GoesWith (subject_of (search_in W.word_chars program input)) (as_whole program.automaton.groups found.pattern p)
         (found.span.start, []) (found.span.end, records)
         × ((slot : ℕ) → slot < length captures.offsets → slice_index_or captures.offsets slot None ≡ last_in records slot) }
-    ensures next_of_any { (program : Compiled W) (patterns : List Pattern) (input : InputParts) (last : Option ℕ) (captures : Captured) (found : Matched)
+    ensures next { (program : Compiled W) (patterns : List Pattern) (input : InputParts) (last : Option ℕ) (captures : Captured) (found : Matched)
         (p : Pattern) → RecordsWays W.word_chars program patterns → IsNextMatch (search_in W.word_chars program input) last captures found →
         slice_get patterns found.pattern ≡ Some p →
         (records : List (ℕ × ℕ)) × GoesWith (subject_of (search_in W.word_chars program input)) (as_whole program.automaton.groups found.pattern p)
         (found.span.start, []) (found.span.end, records)
         × ((slot : ℕ) → slot < length captures.offsets → slice_index_or captures.offsets slot None ≡ last_in records slot) }
-    ensures one { (x : Subject) (p : Pattern) (end : ℕ) (m n k : Point) → IsFirstWay x p (λ l. l ≤ end) m n → IsFirstWay x p (λ l. l ≤ end) m k → n ≡ k }
 {}
 
 /// If each part that is repeated without a limit takes a byte, a preferred way is the first way. So is that of the whole of a program's pattern, which ends at
@@ -338,13 +342,13 @@ pub fn a_group_that_begins_ends<W: WordClass>()
 /// with as many slots then hold the same.
 pub fn at_most_one_match_of_patterns()
     ensures first { (patterns : List Pattern) (lists : GroupLists) (search : Search) (one other : Captured) (m n : Matched) →
-        IsFirstOf patterns lists search one m → IsFirstOf patterns lists search other n →
+        IsFirstOfPatterns patterns lists search one m → IsFirstOfPatterns patterns lists search other n →
         (m ≡ n) × (one.groups ≡ other.groups → length one.offsets ≡ length other.offsets → one ≡ other) }
     ensures next { (patterns : List Pattern) (lists : GroupLists) (search : Search) (last : Option ℕ) (one other : Captured) (m n : Matched) →
-        IsNextOf patterns lists search last one m → IsNextOf patterns lists search last other n →
+        IsNextOfPatterns patterns lists search last one m → IsNextOfPatterns patterns lists search last other n →
         (m ≡ n) × (one.groups ≡ other.groups → length one.offsets ≡ length other.offsets → one ≡ other) }
     ensures over { (patterns : List Pattern) (lists : GroupLists) (search : Search) (last : Option ℕ) (captures : Captured) (m : Matched) →
-        IsNextOf patterns lists search last captures m → ¬ (IsOverOf patterns lists search last) }
+        IsNextOfPatterns patterns lists search last captures m → ¬ (IsOverOfPatterns patterns lists search last) }
 {}
 
 /// What a way of a pattern finds recorded in a slot stays recorded there, or is recorded later: so a group that each way goes through is set.

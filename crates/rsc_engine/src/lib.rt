@@ -2,8 +2,8 @@
 //!
 //! [`find`] returns the leftmost-first match of a [`Program`] in an input, and [`Matches`] all of them, one after the other; [`Lines`] the lines that have one.
 //!
-//! `builder` makes parts and compiles them to the automaton of a `program`. `first`, `iterate` and `cache` have the searches. `dfa` finds matches by the rows
-//! of a table; `first` and `lines` call it. `word_class` has which word predicates a search takes, `error` why there is no answer.
+//! `builder` makes parts and compiles them to the automaton of a `program`. `first`, `iterate`, `cache` and `lines` have the searches. `dfa` finds matches by
+//! the rows of a table; they all call it. `word_class` has which word predicates a search takes, `error` why there is no answer.
 #![tactic(auto)]
 
 mod builder;

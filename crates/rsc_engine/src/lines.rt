@@ -3,7 +3,7 @@ ghost use Rattle.std.specs.Prelude.{◌≡◌, ◌≢◌, ◌+◌, ◌<◌, ◌�
 ghost use Rattle.rsc_look.specs.Looks.{line_feed};
 ghost use Rattle.rsc_engine.specs.declared.error.Error.TheVariants.{OutOfMemory};
 ghost use Rattle.rsc_engine.specs.Preferred.{HasNoFirstMatch};
-ghost use Rattle.rsc_engine.specs.Lines.{BeginsLine, IsLine, NoLine, HasMatchIn, IsNextLine, HasNoLine, after_line};
+ghost use Rattle.rsc_engine.specs.Lines.{BeginsLine, IsLine, NoSuchLine, HasMatchIn, IsNextLine, HasNoMatchingLine, after_line};
 ghost use Rattle.rsc_engine.specs.LinesLayout.{IsCandidate, EndsFrom, search_from};
 
 use crate::{AsciiCompatible, Dfa, Error};
@@ -56,13 +56,13 @@ impl<'p, 'h, W: WordClass> Model for Lines<'p, 'h, W> {
 
     ghost Value = { LinesLeft W };
 
-    ghost view = { λ l. record { program = l.dfa; haystack = l.haystack.now; at = l.at } };
+    ghost view = { λ l. record { program = l.dfa; haystack = l.haystack.now; from = l.at } };
 }
 
 impl<'p, 'h, W: WordClass + AsciiCompatible> Lines<'p, 'h, W> {
     /// The lines of a haystack in which the program of a DFA matches.
     pub fn new(dfa: Dfa<'p, W>, haystack: &'h [u8]) -> Lines<'p, 'h, W>
-        ensures { result ≡ record { program = dfa.entry; haystack = haystack.now; at = 0 } }
+        ensures { result ≡ record { program = dfa.entry; haystack = haystack.now; from = 0 } }
     {
         Lines {
             dfa,
@@ -91,12 +91,12 @@ impl<'p, 'h, W: WordClass + AsciiCompatible> Lines<'p, 'h, W> {
     /// Out of memory. The next call looks for the same line.
     pub fn next(&mut self) -> Result<Option<Span>, Error>
         ensures found { IfOk result (λ found. IfSome found (IsNextLine W.word_chars self.old)) }
-        ensures none { IfOk result (λ found. IfNone found (HasNoLine W.word_chars self.old)) }
+        ensures none { IfOk result (λ found. IfNone found (HasNoMatchingLine W.word_chars self.old)) }
         ensures advanced { IfOk result (λ found. IfSome found (λ line. self.new ≡ after_line self.old line)) }
-        ensures exhausted { IfOk result (λ found. IfNone found (self.new ≡ record self.old { at = length self.old.haystack })) }
+        ensures exhausted { IfOk result (λ found. IfNone found (self.new ≡ record self.old { from = length self.old.haystack })) }
         ensures kept { OnErr result (self.new ≡ self.old) }
         ensures within { IfOk result (λ found. IfSome found (λ line.
-            (self.old.at ≤ line.start) × (line.start ≤ line.end) × (line.end ≤ length self.old.haystack))) }
+            (self.old.from ≤ line.start) × (line.start ≤ line.end) × (line.end ≤ length self.old.haystack))) }
         ensures refused { IfErr result (λ e. e ≡ OutOfMemory) }
     {
         let found = first_line(&mut self.dfa, self.haystack, self.at)?;
@@ -117,9 +117,9 @@ fn first_line<W: WordClass + AsciiCompatible>(
     requires { from < length haystack.now → BeginsLine haystack.now from }
     ensures kept { dfa.new ≡ dfa.old }
     ensures found { IfOk result (λ found. IfSome found
-        (IsNextLine W.word_chars (record { program = dfa.old; haystack = haystack.now; at = from }))) }
+        (IsNextLine W.word_chars (record { program = dfa.old; haystack = haystack.now; from = from }))) }
     ensures none { IfOk result (λ found. IfNone found
-        (HasNoLine W.word_chars (record { program = dfa.old; haystack = haystack.now; at = from }))) }
+        (HasNoMatchingLine W.word_chars (record { program = dfa.old; haystack = haystack.now; from = from }))) }
     ensures refused { IfErr result (λ e. e ≡ OutOfMemory) }
 {
     let mut at = from;
@@ -146,7 +146,7 @@ fn candidate<W: WordClass + AsciiCompatible>(
     ensures kept { dfa.new ≡ dfa.old }
     ensures some { IfOk result (λ found. IfSome found (IsCandidate haystack.now (HasMatchIn W.word_chars dfa.old haystack.now) from)) }
     ensures none { IfOk result (λ found. IfNone found
-        (NoLine haystack.now (HasMatchIn W.word_chars dfa.old haystack.now) from (length haystack.now))) }
+        (NoSuchLine haystack.now (HasMatchIn W.word_chars dfa.old haystack.now) from (length haystack.now))) }
     ensures refused { IfErr result (λ e. e ≡ OutOfMemory) }
 {
     let Some(at) = end_bound(dfa, haystack, from)? else {

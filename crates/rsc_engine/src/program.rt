@@ -1,7 +1,7 @@
 //! A program: an automaton, and where a match begins in it.
 ghost use Rattle.std.specs.Prelude.{◌≡◌, ◌*◌, ◌<◌, ◌≤◌, IfOk, IfErr, IfSome, IfNone, Some, true, length, slice_get};
-ghost use Rattle.rsc_captures.specs.Captured.{no_offsets};
-ghost use Rattle.rsc_captures.specs.Groups.{all_groups};
+ghost use Rattle.rsc_captures.specs.Captured.{unset_captures};
+ghost use Rattle.rsc_captures.specs.Groups.{all_group_count};
 ghost use Rattle.rsc_nfa.specs.Automata.{Automaton};
 ghost use Rattle.rsc_engine.specs.declared.error.Error.TheVariants.{OutOfMemory};
 ghost use Rattle.rsc_engine.specs.GroupEnds.{RecordsEnds};
@@ -107,7 +107,7 @@ impl<W: WordClass> Program<W> {
     // The program of patterns: each run of a match records the match's ends.
     pub(crate) fn of_patterns(nfa: Nfa<W>, start: StateID, utf8: bool) -> Program<W>
         requires there { start < length nfa.states }
-        requires ends { RecordsEnds W.word_chars (record { automaton = nfa; start = start; utf8 = utf8 }) }
+        requires records_ends { RecordsEnds W.word_chars (record { automaton = nfa; start = start; utf8 = utf8 }) }
         ensures { result ≡ record { automaton = nfa; start = start; utf8 = utf8 } }
     {
         Program {
@@ -140,8 +140,8 @@ impl<W: WordClass> Program<W> {
     ///
     /// Out of memory.
     pub fn captures(&self, alloc: Global) -> Result<Captures, Error>
-        ensures made { IfOk result (λ c. c ≡ no_offsets self.now.automaton.groups (2 * all_groups self.now.automaton.groups)) }
-        ensures room { IfOk result (HasSlotsOf self.now) }
+        ensures made { IfOk result (λ c. c ≡ unset_captures self.now.automaton.groups (2 * all_group_count self.now.automaton.groups)) }
+        ensures slots { IfOk result (HasSlotsOf self.now) }
         ensures refused { IfErr result (λ e. e ≡ OutOfMemory) }
     {
         Ok(Captures::all(alloc, self.nfa.group_info().clone()?)?)
@@ -172,7 +172,7 @@ impl<W: WordClass> Program<W> {
         self.nfa.states().len()
     }
 
-    /// A state by its number.
+    /// A state by its number, which is below [`Program::state_len`].
     #[inline]
     pub fn state(&self, sid: StateID) -> State
         requires { sid < length self.now.automaton.states }

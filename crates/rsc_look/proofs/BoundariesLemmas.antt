@@ -6,8 +6,8 @@ use Rattle.std.specs.FinSet.{contains-empty, contains-from_list_nat}
 use Rattle.std.proofs.lemmas.List.{take_all, take_more}
 use Rattle.std.proofs.lemmas.List.Folds.{list_any-append}
 use Rattle.std.proofs.Math.Bool.{or-false}
-use Rattle.rsc_look.proofs.Prelude.{HasBoundariesOf, Numbers, boundaries_of_range, class_map, contains-joined, contains-boundaries_of_range, class_map_same, Look, Start, End, StartLF, EndLF, StartCRLF, EndCRLF, is_word_byte, WordAscii, WordAsciiNegate, WordStartAscii, WordEndAscii, WordStartHalfAscii, WordEndHalfAscii, byte_before, is_byte, is_word_neighbor, holds_at_bytes, Together, AreInterchanged}
-use Rattle.rsc_look.specs.Boundaries.{word_byte_boundaries, boundaries_of, boundaries_of_each}
+use Rattle.rsc_look.proofs.Prelude.{HasBoundariesOf, Numbers, boundaries_of_range, class_map, contains-joined, contains-boundaries_of_range, class_map_same, Look, Start, End, StartLF, EndLF, StartCRLF, EndCRLF, is_word_byte, WordAscii, WordAsciiNegate, WordStartAscii, WordEndAscii, WordStartHalfAscii, WordEndHalfAscii, byte_before, is_byte, is_word_neighbor, holds_at_bytes, AreTogether, AreInterchanged}
+use Rattle.rsc_look.specs.Boundaries.{word_byte_boundaries, boundaries_of_look, boundaries_of_looks}
 use Rattle.std.proofs.lemmas.Bool.Decides.{nat_tests}
 use Rattle.std.proofs.lemmas.Option.{slice_get-get_or, slice_get_past}
 use Rattle.std.proofs.lemmas.Bool.{or_left, or_right, cases_lt}
@@ -51,21 +51,21 @@ crlf b = contains-joined (boundaries_of_range (13, 13)) (boundaries_of_range (10
     ∙ ap₂ (λ x y. x || y) (contains-boundaries_of_range 13 13 b) (contains-boundaries_of_range 10 10 b)
 
 -- the test of one assertion tells its boundaries
-pub contains-boundaries_of : (l : Look) (t b : ℕ) → sets.contains (boundaries_of l t) b ≡ is_boundary_of l t b
-contains-boundaries_of Start t b = contains-empty nat_cmp b
-contains-boundaries_of End t b = contains-empty nat_cmp b
-contains-boundaries_of StartLF t b = contains-boundaries_of_range t t b
-contains-boundaries_of EndLF t b = contains-boundaries_of_range t t b
-contains-boundaries_of StartCRLF t b = crlf b
-contains-boundaries_of EndCRLF t b = crlf b
-contains-boundaries_of _ t b = contains-word_byte_boundaries b
+pub contains-boundaries_of_look : (l : Look) (t b : ℕ) → sets.contains (boundaries_of_look l t) b ≡ is_boundary_of l t b
+contains-boundaries_of_look Start t b = contains-empty nat_cmp b
+contains-boundaries_of_look End t b = contains-empty nat_cmp b
+contains-boundaries_of_look StartLF t b = contains-boundaries_of_range t t b
+contains-boundaries_of_look EndLF t b = contains-boundaries_of_range t t b
+contains-boundaries_of_look StartCRLF t b = crlf b
+contains-boundaries_of_look EndCRLF t b = crlf b
+contains-boundaries_of_look _ t b = contains-word_byte_boundaries b
 
 -- the test of a list tells the boundaries of its members
-pub contains-boundaries_of_each : (looks : List Look) (t b : ℕ) → sets.contains (boundaries_of_each looks t) b ≡ is_boundary_of_each looks t b
-contains-boundaries_of_each [] t b = contains-empty nat_cmp b
-contains-boundaries_of_each (l ∷ rest) t b =
-    contains-joined (boundaries_of l t) (boundaries_of_each rest t) b
-    ∙ ap₂ (λ x y. x || y) (contains-boundaries_of l t b) (contains-boundaries_of_each rest t b)
+pub contains-boundaries_of_looks : (looks : List Look) (t b : ℕ) → sets.contains (boundaries_of_looks looks t) b ≡ is_boundary_of_each looks t b
+contains-boundaries_of_looks [] t b = contains-empty nat_cmp b
+contains-boundaries_of_looks (l ∷ rest) t b =
+    contains-joined (boundaries_of_look l t) (boundaries_of_looks rest t) b
+    ∙ ap₂ (λ x y. x || y) (contains-boundaries_of_look l t b) (contains-boundaries_of_looks rest t b)
 
 -- ---- a loop over a list, for a set that has the boundaries of its members so far
 
@@ -79,40 +79,40 @@ AreGathered-none looks t s e b = ap (λ u. sets.contains u b) e ∙ contains-emp
 
 -- one more assertion's boundaries
 pub AreGathered-more : (s new : Numbers) (looks : List Look) (i : ℕ) (d : Look) (t : ℕ) → i < length looks → AreGathered s (take i looks) t
-    → new ≡ sets.union s (boundaries_of (get_or looks i d) t) → AreGathered new (take (i + 1) looks) t
+    → new ≡ sets.union s (boundaries_of_look (get_or looks i d) t) → AreGathered new (take (i + 1) looks) t
 AreGathered-more s new looks i d t h has e b =
     let l = get_or looks i d in
-    ap (λ u. sets.contains u b) e ∙ contains-joined s (boundaries_of l t) b
-    ∙ ap₂ (λ x y. x || y) (has b) (contains-boundaries_of l t b ∙ sym (or-false (is_boundary_of l t b)))
+    ap (λ u. sets.contains u b) e ∙ contains-joined s (boundaries_of_look l t) b
+    ∙ ap₂ (λ x y. x || y) (has b) (contains-boundaries_of_look l t b ∙ sym (or-false (is_boundary_of l t b)))
     ∙ sym (ap (λ (x : List Look). is_boundary_of_each x t b) (take_more looks i d h)
     ∙ list_any-append (λ x. is_boundary_of x t b) (take i looks) (l ∷ []))
 
 -- after the loop over the whole list
 pub classes_whole : (looks : List Look) (t n : ℕ) (s : Numbers) (m : List ℕ) → length looks ≤ n → AreGathered s (take n looks) t
-    → m ≡ class_map (sets.contains s) → m ≡ class_map (sets.contains (boundaries_of_each looks t))
+    → m ≡ class_map (sets.contains s) → m ≡ class_map (sets.contains (boundaries_of_looks looks t))
 classes_whole looks t n s m l has is =
-    is ∙ class_map_same (sets.contains s) (sets.contains (boundaries_of_each looks t)) (λ b lt.
-    has b ∙ ap (λ (x : List Look). is_boundary_of_each x t b) (take_all n looks l) ∙ sym (contains-boundaries_of_each looks t b))
+    is ∙ class_map_same (sets.contains s) (sets.contains (boundaries_of_looks looks t)) (λ b lt.
+    has b ∙ ap (λ (x : List Look). is_boundary_of_each x t b) (take_all n looks l) ∙ sym (contains-boundaries_of_looks looks t b))
 
 -- ---- the twelve assertions on bytes are kept by a partition that has their boundaries
 
 -- two bytes that are together lie on one side of each boundary
-pub Together-leb : (p : ℕ → Bool) (a b x : ℕ) → Together p a b → p x ≡ true → leb a x ≡ leb b x
-Together-leb p a b x t h =
+pub AreTogether-leb : (p : ℕ → Bool) (a b x : ℕ) → AreTogether p a b → p x ≡ true → leb a x ≡ leb b x
+AreTogether-leb p a b x t h =
     grind (arith, nat_tests)
 
-Together-leb-boundary : (p m : ℕ → Bool) (a b x : ℕ) → HasBoundariesOf p m → Together p a b → x < 255 → m x ≡ true → leb a x ≡ leb b x
-Together-leb-boundary p m a b x s t l h = Together-leb p a b x t (s x l h)
+AreTogether-leb-boundary : (p m : ℕ → Bool) (a b x : ℕ) → HasBoundariesOf p m → AreTogether p a b → x < 255 → m x ≡ true → leb a x ≡ leb b x
+AreTogether-leb-boundary p m a b x s t l h = AreTogether-leb p a b x t (s x l h)
 
 same_eqb : (a b t : ℕ) → a < 256 → b < 256 → (t < 255 → leb a t ≡ leb b t) → (0 < t → t < 256 → leb a (t - 1) ≡ leb b (t - 1))
     → eqb a t ≡ eqb b t
 same_eqb a b t la lb f g = grind (arith, nat_tests)
 
-pub Together-eqb : (p : ℕ → Bool) (a b t : ℕ) → a < 256 → b < 256 → HasBoundariesOf p (is_boundary_of_byte t) → Together p a b
+pub AreTogether-eqb : (p : ℕ → Bool) (a b t : ℕ) → a < 256 → b < 256 → HasBoundariesOf p (is_boundary_of_byte t) → AreTogether p a b
     → eqb a t ≡ eqb b t
-Together-eqb p a b t la lb s h =
-    same_eqb a b t la lb (λ l. Together-leb-boundary p (is_boundary_of_byte t) a b t s h l (grind (arith, nat_tests)))
-    (λ l lt. Together-leb-boundary p (is_boundary_of_byte t) a b (t - 1) s h (omega arith) (grind (arith, nat_tests)))
+AreTogether-eqb p a b t la lb s h =
+    same_eqb a b t la lb (λ l. AreTogether-leb-boundary p (is_boundary_of_byte t) a b t s h l (grind (arith, nat_tests)))
+    (λ l lt. AreTogether-leb-boundary p (is_boundary_of_byte t) a b (t - 1) s h (omega arith) (grind (arith, nat_tests)))
 
 -- the word bytes, by the boundaries that they lie between
 abbrev word_byte_between : Bool → Bool → Bool → Bool → Bool → Bool → Bool → Bool → Bool
@@ -129,10 +129,10 @@ is_word_byte-between : (a : ℕ)
 is_word_byte-between a = rw (above 0x2F a, above 0x40 a, above 0x60 a, at_low_line a)
 
 -- bytes that are together are both word bytes, or neither is
-pub Together-is_word_byte : (p : ℕ → Bool) (a b : ℕ) → HasBoundariesOf p is_word_byte_boundary → Together p a b → is_word_byte a ≡ is_word_byte b
-Together-is_word_byte p a b s h =
+pub AreTogether-is_word_byte : (p : ℕ → Bool) (a b : ℕ) → HasBoundariesOf p is_word_byte_boundary → AreTogether p a b → is_word_byte a ≡ is_word_byte b
+AreTogether-is_word_byte p a b s h =
     let go : (x : ℕ) → x < 255 → is_word_byte_boundary x ≡ true
-    → leb a x ≡ leb b x = λ x l m. Together-leb-boundary p is_word_byte_boundary a b x s h l m in
+    → leb a x ≡ leb b x = λ x l m. AreTogether-leb-boundary p is_word_byte_boundary a b x s h l m in
     let e1 = go 0x2F (omega arith) refl in
     let e2 = go 0x39 (omega arith) refl in
     let e3 = go 0x40 (omega arith) refl in
@@ -146,7 +146,7 @@ Together-is_word_byte p a b s h =
 -- neighbours that may replace each other: both absent, or both there and together
 abbrev pub TogetherAt : (ℕ → Bool) → Option ℕ → Option ℕ → Type 0
 TogetherAt p None None = Unit {0}
-TogetherAt p (Some a) (Some b) = (a < 256) × (b < 256) × Together p a b
+TogetherAt p (Some a) (Some b) = (a < 256) × (b < 256) × AreTogether p a b
 TogetherAt p _ _ = ⊥
 
 -- interchanged haystacks have neighbours that are together: the byte after a position
@@ -171,13 +171,13 @@ same_none p _ _ t = absurd t
 
 same_byte : (p : ℕ → Bool) (a b : Option ℕ) (t : ℕ) → HasBoundariesOf p (is_boundary_of_byte t) → TogetherAt p a b → is_byte t a ≡ is_byte t b
 same_byte p None None t s h = refl
-same_byte p (Some a) (Some b) t s h = Together-eqb p a b t h.0 h.1 s h.2
+same_byte p (Some a) (Some b) t s h = AreTogether-eqb p a b t h.0 h.1 s h.2
 same_byte p _ _ t s h = absurd h
 
 same_word_byte : (p : ℕ → Bool) (a b : Option ℕ) → HasBoundariesOf p is_word_byte_boundary → TogetherAt p a b
     → is_word_neighbor a ≡ is_word_neighbor b
 same_word_byte p None None s h = refl
-same_word_byte p (Some a) (Some b) s h = Together-is_word_byte p a b s h.2
+same_word_byte p (Some a) (Some b) s h = AreTogether-is_word_byte p a b s h.2
 same_word_byte p _ _ s h = absurd h
 
 crlf_cr : (p : ℕ → Bool) → HasBoundariesOf p (λ b. is_boundary_of_byte 13 b || is_boundary_of_byte 10 b) → HasBoundariesOf p (is_boundary_of_byte 13)

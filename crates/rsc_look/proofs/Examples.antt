@@ -1,8 +1,8 @@
 -- The definitions, computed on examples.
 use Rattle.std.proofs.Common.{◌≡◌, ℕ, Bool, true, false, List, [], ◌∷◌, refl, sym, ap, ◌∙◌, arith}
 use Rattle.std.specs.FinSet as sets
-use Rattle.rsc_look.proofs.Prelude.{Look, StartLF, EndLF, StartCRLF, EndCRLF, WordAscii, WordUnicode, WordUnicodeNegate, WordStartHalfUnicode, Invalid, WordCharacter, Other, every_look, bits_of, bits_of-looks_of, byte_before, byte_after, holds_at_bytes, holds_at_sides, boundaries_of, mirror}
-use Rattle.rsc_look.proofs.BoundariesLemmas.{contains-boundaries_of}
+use Rattle.rsc_look.proofs.Prelude.{Look, StartLF, EndLF, StartCRLF, EndCRLF, WordAscii, WordUnicode, WordUnicodeNegate, WordStartHalfUnicode, Invalid, WordCharacter, Other, every_look, bits_of, bits_of-looks_of, byte_before, byte_after, holds_at_bytes, holds_at_sides, boundaries_of_look, mirror}
+use Rattle.rsc_look.proofs.BoundariesLemmas.{contains-boundaries_of_look}
 use Rattle.rsc_look.proofs.LookSetLayoutLemmas.{looks_of_all}
 
 -- what a byte assertion says at a position, for the line terminator `\n`
@@ -40,17 +40,17 @@ bad_before_half_start : holds_at_sides WordStartHalfUnicode Invalid WordCharacte
 bad_before_half_start = refl
 
 -- the line terminators 0 and 255 have one boundary each
-boundary_after_zero : sets.contains (boundaries_of StartLF 0) 0 ≡ true
-boundary_after_zero = contains-boundaries_of StartLF 0 0
+boundary_after_zero : sets.contains (boundaries_of_look StartLF 0) 0 ≡ true
+boundary_after_zero = contains-boundaries_of_look StartLF 0 0
 
-boundary_before_last : sets.contains (boundaries_of EndLF 255) 254 ≡ true
-boundary_before_last = contains-boundaries_of EndLF 255 254
+boundary_before_last : sets.contains (boundaries_of_look EndLF 255) 254 ≡ true
+boundary_before_last = contains-boundaries_of_look EndLF 255 254
 
-no_boundary_after_last : sets.contains (boundaries_of EndLF 255) 255 ≡ false
-no_boundary_after_last = contains-boundaries_of EndLF 255 255
+no_boundary_after_last : sets.contains (boundaries_of_look EndLF 255) 255 ≡ false
+no_boundary_after_last = contains-boundaries_of_look EndLF 255 255
 
-word_byte_boundary : sets.contains (boundaries_of WordAscii 10) 0x5E ≡ true
-word_byte_boundary = contains-boundaries_of WordAscii 10 0x5E
+word_byte_boundary : sets.contains (boundaries_of_look WordAscii 10) 0x5E ≡ true
+word_byte_boundary = contains-boundaries_of_look WordAscii 10 0x5E
 
 -- the set of all assertions
 bits_of_all : bits_of (sets.from_list every_look) ≡ 262143

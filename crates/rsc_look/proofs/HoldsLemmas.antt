@@ -3,7 +3,7 @@ use Rattle.std.specs.Bool.{beq}
 use Rattle.std.proofs.Common.{cond, not, ◌&&◌, ap₂, ◌≡◌, ◌↔◌, ℕ, ◌-◌, ◌<◌, ◌≤◌, Bool, true, false, List, length, get_or, refl, sym, ap, ◌∙◌, subst, arith, inl, inr, ⊎_elim, true≢false, IsTrue}
 use Rattle.std.proofs.lemmas.Bool.{cases_eq, cases_Bool, false_from_ne_true}
 use Rattle.rsc_look.proofs.Prelude.{HasBoundariesOf, is_word_byte, BeginsAt, EndsAt, EncodedFrom, AgreePastAscii, EncodedFrom-agree, BeginsAt-same, EndsAt-same, Look, Side, Absent, Invalid, WordCharacter, Other, IsBefore, IsAfter, HoldsAtSides, holds_at_sides, exactly_one, is_invalid, is_word_side, is_absent_or_other, Holds, WordUnicode, WordUnicodeNegate, WordStartUnicode, WordEndUnicode, WordStartHalfUnicode, WordEndHalfUnicode, BeginsAt-decided, EndsAt-decided, IsSideOf, is_unicode, AreInterchanged, DifferInAscii, AgreesWithAscii, IsInside, IsInside-begins, IsInside-ends}
-use Rattle.rsc_look.proofs.BoundariesLemmas.{is_word_byte_boundary, Together-is_word_byte}
+use Rattle.rsc_look.proofs.BoundariesLemmas.{is_word_byte_boundary, AreTogether-is_word_byte}
 
 -- an encoding has some bytes, so no character ends at the start and none begins at the end
 some_bytes : (h : List ℕ) (i j c : ℕ) → EncodedFrom h i j c → j ≤ i → ⊥
@@ -146,7 +146,7 @@ Interchange-from p chars h k a m s d =
       agree = AgreePastAscii-from h k s.same_length d;
       ascii = a;
       word_bytes =
-          λ i l. Together-is_word_byte p (get_or h i 0) (get_or k i 0) m (s.together i l);
+          λ i l. AreTogether-is_word_byte p (get_or h i 0) (get_or k i 0) m (s.together i l);
     }
 
 -- ---- for the readers of the two sides: a part of a haystack has the positions of the whole

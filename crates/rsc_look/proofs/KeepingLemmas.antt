@@ -2,8 +2,8 @@
 use Rattle.std.proofs.Common.{◌≡◌, ℕ, zero, suc, ◌+◌, ◌<◌, ◌≤◌, Bool, true, false, ◌&&◌, ◌||◌, eqb, nat_eq, nat_lt, cond, List, [], ◌∷◌, refl, sym, ap, ◌∙◌, arith, ◌⊎◌, inl, inr, true≢false, not, ltb, ◌↔◌, subst, slice_index, length, Contains, nat_cmp}
 use Rattle.std.specs.List.{list_any, list_all}
 use Rattle.std.proofs.lemmas.Bool.Decides.{nat_tests}
-use Rattle.rsc_look.proofs.Prelude.{HasBoundariesOf, is_word_byte, EncodedFrom, Look, Start, End, StartLF, EndLF, StartCRLF, EndCRLF, WordUnicode, WordUnicodeNegate, WordEndAscii, WordStartUnicode, WordEndUnicode, WordStartHalfAscii, WordStartHalfUnicode, WordEndHalfUnicode, Side, Absent, WordCharacter, Other, exactly_one, byte_before, byte_after, holds_at_bytes, IsBefore, IsAfter, holds_at_sides, is_unicode, AgreesWithAscii, Tells, Numbers, is_boundary_of_set, contains-joined, word_byte_boundaries, Together, class_map, Holds, boundaries_of_each, IsHaystack, AreInterchanged, DifferInAscii, Keeps, IsCoarsest, AgreesWhereAsked, IsNeeded, IsCoarsestMap, alike_alone, not_told, IsExactFor, boundaries_of, same_as_only, is_its_member}
-use Rattle.rsc_look.proofs.BoundariesLemmas.{is_boundary_of_byte, word_byte_boundary_numbers, is_word_byte_boundary, is_boundary_of, contains-word_byte_boundaries, is_boundary_of_each, contains-boundaries_of_each, contains-boundaries_of, TogetherAt-slice_get, TogetherAt-before, holds_at_bytes-same}
+use Rattle.rsc_look.proofs.Prelude.{HasBoundariesOf, is_word_byte, EncodedFrom, Look, Start, End, StartLF, EndLF, StartCRLF, EndCRLF, WordUnicode, WordUnicodeNegate, WordEndAscii, WordStartUnicode, WordEndUnicode, WordStartHalfAscii, WordStartHalfUnicode, WordEndHalfUnicode, Side, Absent, WordCharacter, Other, exactly_one, byte_before, byte_after, holds_at_bytes, IsBefore, IsAfter, holds_at_sides, is_unicode, AgreesWithAscii, Tells, Numbers, is_boundary_of_set, contains-joined, word_byte_boundaries, AreTogether, class_map, Holds, boundaries_of_looks, IsHaystack, AreInterchanged, DifferInAscii, Keeps, IsCoarsest, AgreesWhereAsked, IsNeeded, IsCoarsestMap, alike_alone, not_told, HasNeededBoundaries, boundaries_of_look, same_as_only, is_its_member}
+use Rattle.rsc_look.proofs.BoundariesLemmas.{is_boundary_of_byte, word_byte_boundary_numbers, is_word_byte_boundary, is_boundary_of, contains-word_byte_boundaries, is_boundary_of_each, contains-boundaries_of_looks, contains-boundaries_of_look, TogetherAt-slice_get, TogetherAt-before, holds_at_bytes-same}
 use Rattle.rsc_look.proofs.HoldsLemmas.{at_sides, Holds-bytes, Holds-sides, side_is, side_is_after, HoldsAtSides-moves, Interchange, Interchange-from, Interchange-sym}
 use Rattle.std.proofs.lemmas.Bool.{agree_below_at, eqb-true, true_from_ne_false, or_right}
 use Rattle.std.specs.Cmp.{nat_cmp_total}
@@ -241,30 +241,30 @@ boundary_is_needed q looks l t chars b a keeps c lt m = true_from_ne_false (q b)
         (told_at l) (told_at_le l)) told
 
 -- the member whose boundary it is
-member_with : (looks : List Look) (t b : ℕ) → sets.contains (boundaries_of_each looks t) b ≡ true
+member_with : (looks : List Look) (t b : ℕ) → sets.contains (boundaries_of_looks looks t) b ≡ true
     → (l : Look) × Contains looks l × (is_boundary_of l t b ≡ true)
 member_with looks t b m =
-    let found = Any-from_list_any (λ l. is_boundary_of l t b) looks (sym (contains-boundaries_of_each looks t b) ∙ m) in
+    let found = Any-from_list_any (λ l. is_boundary_of l t b) looks (sym (contains-boundaries_of_looks looks t b) ∙ m) in
     (found.1, (found.0, found.2, found.3), found.4)
 
 boundaries-IsCoarsest : (looks : List Look) (t : ℕ) (chars : ℕ → Bool) → AgreesWhereAsked chars looks
-    → IsCoarsest (sets.contains (boundaries_of_each looks t)) looks t chars
+    → IsCoarsest (sets.contains (boundaries_of_looks looks t)) looks t chars
 boundaries-IsCoarsest looks t chars a = record {
-  keeps = Keeps-from (sets.contains (boundaries_of_each looks t)) looks t chars (λ b lt m. contains-boundaries_of_each looks t b ∙ m) a;
+  keeps = Keeps-from (sets.contains (boundaries_of_looks looks t)) looks t chars (λ b lt m. contains-boundaries_of_looks looks t b ∙ m) a;
   least = λ q keeps b lt m. let y = member_with looks t b m in boundary_is_needed q looks y.0 t chars b (a y.0 y.1) keeps y.1 lt y.2;
 }
 
 boundaries-IsNeeded : (looks : List Look) (t : ℕ) (chars : ℕ → Bool) (b : ℕ) → AgreesWhereAsked chars looks
-    → sets.contains (boundaries_of_each looks t) b ≡ true → IsNeeded b looks t chars
+    → sets.contains (boundaries_of_looks looks t) b ≡ true → IsNeeded b looks t chars
 boundaries-IsNeeded looks t chars b a m =
     let y = member_with looks t b m in
     record { look = y.0; listed = y.1; position = told_at y.0; at_an_end = told_at_le y.0; tells = Tells-boundary y.0 t chars b (a y.0 y.1) y.2 }
 
 -- the class map of the members' boundaries is that of the coarsest partition
-pub IsCoarsestMap-from : (m : List ℕ) (looks : List Look) (t : ℕ) (chars : ℕ → Bool) → m ≡ class_map (sets.contains (boundaries_of_each looks t))
+pub IsCoarsestMap-from : (m : List ℕ) (looks : List Look) (t : ℕ) (chars : ℕ → Bool) → m ≡ class_map (sets.contains (boundaries_of_looks looks t))
     → AgreesWhereAsked chars looks → IsCoarsestMap m looks t chars
 IsCoarsestMap-from m looks t chars is a = record {
-  boundaries = sets.contains (boundaries_of_each looks t);
+  boundaries = sets.contains (boundaries_of_looks looks t);
   classes = is;
   coarsest = boundaries-IsCoarsest looks t chars a;
   needed = λ b lt e. boundaries-IsNeeded looks t chars b a e;
@@ -272,7 +272,7 @@ IsCoarsestMap-from m looks t chars is a = record {
 
 -- haystacks whose bytes at each position have one class are interchanged, where one class is to be together
 pub AreInterchanged-from_classes : (m : List ℕ) (p : ℕ → Bool) (h k : List ℕ)
-    → ((q : ℕ → Bool) (b c : ℕ) → b < 256 → c < 256 → (slice_index (class_map q) b ≡ slice_index (class_map q) c) ↔ Together q b c)
+    → ((q : ℕ → Bool) (b c : ℕ) → b < 256 → c < 256 → (slice_index (class_map q) b ≡ slice_index (class_map q) c) ↔ AreTogether q b c)
     → m ≡ class_map p → IsHaystack h → IsHaystack k → length h ≡ length k
     → ((i : ℕ) → i < length h → slice_index m (slice_index h i) ≡ slice_index m (slice_index k i)) → AreInterchanged p h k
 AreInterchanged-from_classes m p h k one classes first second len same = record {
@@ -286,16 +286,16 @@ AreInterchanged-from_classes m p h k one classes first second len same = record 
 -- ---- one assertion and its boundaries
 
 -- a set that got the boundaries of an assertion has them
-has_boundaries : (old new : Numbers) (l : Look) (t : ℕ) → new ≡ sets.union old (boundaries_of l t)
+has_boundaries : (old new : Numbers) (l : Look) (t : ℕ) → new ≡ sets.union old (boundaries_of_look l t)
     → HasBoundariesOf (sets.contains new) (is_boundary_of l t)
 has_boundaries old new l t e b lt m =
-    ap (λ s. sets.contains s b) e ∙ contains-joined old (boundaries_of l t) b
-    ∙ or_right (sets.contains old b) (sets.contains (boundaries_of l t) b) (contains-boundaries_of l t b ∙ m)
+    ap (λ s. sets.contains s b) e ∙ contains-joined old (boundaries_of_look l t) b
+    ∙ or_right (sets.contains old b) (sets.contains (boundaries_of_look l t) b) (contains-boundaries_of_look l t b ∙ m)
 
 -- a set with the boundaries of one more assertion is exact for it
-pub IsExactFor-from : (old new : Numbers) (l : Look) (t : ℕ) (chars : ℕ → Bool) → new ≡ sets.union old (boundaries_of l t)
-    → (is_unicode l ≡ true → AgreesWithAscii chars) → IsExactFor (sets.contains new) l t chars
-IsExactFor-from old new l t chars e a = record {
+pub HasNeededBoundaries-from : (old new : Numbers) (l : Look) (t : ℕ) (chars : ℕ → Bool) → new ≡ sets.union old (boundaries_of_look l t)
+    → (is_unicode l ≡ true → AgreesWithAscii chars) → HasNeededBoundaries (sets.contains new) l t chars
+HasNeededBoundaries-from old new l t chars e a = record {
   kept = λ q f.
       let m : HasBoundariesOf q (is_boundary_of l t) = λ b lt x. f b lt (has_boundaries old new l t e b lt x) in
       record {
@@ -305,20 +305,20 @@ IsExactFor-from old new l t chars e a = record {
             ∙ u in subst (λ x. Holds x t chars h i ↔ Holds x t chars j i) z
             (kept_at_characters q l t chars (a v) m v h j s d i);
       };
-  least = λ q keeps b lt m. boundary_is_needed q (l ∷ []) l t chars b a keeps (is_its_member l) lt (sym (contains-boundaries_of l t b) ∙ m);
+  least = λ q keeps b lt m. boundary_is_needed q (l ∷ []) l t chars b a keeps (is_its_member l) lt (sym (contains-boundaries_of_look l t b) ∙ m);
   needed = λ b lt m. record {
     look = l;
     listed = is_its_member l;
     position = told_at l;
     at_an_end = told_at_le l;
     tells =
-        Tells-boundary l t chars b a (sym (contains-boundaries_of l t b) ∙ m);
+        Tells-boundary l t chars b a (sym (contains-boundaries_of_look l t b) ∙ m);
   };
 }
 
 -- the same of the assertion's own boundaries alone
-pub IsExactFor_own : (l : Look) (t : ℕ) (chars : ℕ → Bool) → (is_unicode l ≡ true → AgreesWithAscii chars)
-    → IsExactFor (sets.contains (boundaries_of l t)) l t chars
-IsExactFor_own l t chars =
-    IsExactFor-from sets.empty (boundaries_of l t) l t chars (same_set nat_cmp_total nat_cmp-IsAntisymmetric _ _ (λ b.
-    sym (contains-joined sets.empty (boundaries_of l t) b ∙ ap (λ x. x || sets.contains (boundaries_of l t) b) (contains-empty nat_cmp b))))
+pub HasNeededBoundaries_own : (l : Look) (t : ℕ) (chars : ℕ → Bool) → (is_unicode l ≡ true → AgreesWithAscii chars)
+    → HasNeededBoundaries (sets.contains (boundaries_of_look l t)) l t chars
+HasNeededBoundaries_own l t chars =
+    HasNeededBoundaries-from sets.empty (boundaries_of_look l t) l t chars (same_set nat_cmp_total nat_cmp-IsAntisymmetric _ _ (λ b.
+    sym (contains-joined sets.empty (boundaries_of_look l t) b ∙ ap (λ x. x || sets.contains (boundaries_of_look l t) b) (contains-empty nat_cmp b))))

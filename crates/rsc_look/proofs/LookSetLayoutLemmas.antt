@@ -16,7 +16,7 @@ use Rattle.std.proofs.lemmas.Option.{same_Some, none-some}
 use lib.Lanes.{mask_l}
 use Rattle.rsc_look.proofs.Prelude.{Look, Start, look_cmp, Looks, members, bits_of, look_cmp_total, look_cmp-IsAntisymmetric, same_looks, repr_of-injective, repr_of-pow, bit_of-look_at, bit_of-lt, contains-looks_of, bits_of-looks_of, looks_of-bits_of, bits_of-lt, every_look_has, tied, same_members, same_bools, same_from, same_to, from_to, from_to_parts, filter_none, filter_first, filter_same, repr_of-look_at, every_look-is, contains-filtered}
 use Rattle.rsc_look.specs.Looks.{repr_of, every_look}
-use Rattle.rsc_look.specs.LookSets.{look_text, text_of_looks}
+use Rattle.rsc_look.specs.LookSets.{look_text, looks_text}
 use Rattle.rsc_look.specs.LookSetLayout.{bit_of, has_look, looks_of, look_at}
 use Rattle.std.proofs.lemmas.List.Elements.{filter-append}
 use Rattle.std.specs.Cmp.{unsigned_tied}
@@ -276,10 +276,10 @@ contains-members : (s : Looks) (l : Look) → sets.contains (sets.from_list {R =
 contains-members s l = contains-filtered (λ m. sets.contains s m) l
 
 -- a set with members is shown by their characters
-pub text_of_some : (s : Looks) → (s ≡ sets.empty → IsTrue false) → text_of_looks (members s) ≡ flat_map look_text (members s)
+pub text_of_some : (s : Looks) → (s ≡ sets.empty → IsTrue false) → looks_text (members s) ≡ flat_map look_text (members s)
 text_of_some s some = go (members s) refl
   where
-    go : (looks : List Look) → members s ≡ looks → text_of_looks looks ≡ flat_map look_text looks
+    go : (looks : List Look) → members s ≡ looks → looks_text looks ≡ flat_map look_text looks
     go [] e =
         let same : s ≡ sets.empty =
         same_looks s sets.empty (λ l. sym (contains-members s l) ∙ ap (λ (looks : List Look). sets.contains (sets.from_list {R = look_cmp} looks) l) e) in

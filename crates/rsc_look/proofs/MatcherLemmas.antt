@@ -3,7 +3,7 @@ use Rattle.std.proofs.Common.{rules, ◌≡◌, ◌↔◌, ℕ, zero, suc, ◌+�
 use Rattle.std.proofs.Math.Bool.{or-false}
 use Rattle.std.proofs.lemmas.Option.{slice_get_within, get_or_from_slice_get}
 use Rattle.rsc_primitives.specs.Utf8Laws.{slice_one}
-use Rattle.rsc_look.specs.Looks.{ascii_of}
+use Rattle.rsc_look.specs.Looks.{ascii_counterpart}
 use Rattle.rsc_look.proofs.Prelude.{EncodedFrom, BeginsAt, EndsAt, Look, WordUnicode, WordUnicodeNegate, WordStartUnicode, WordEndUnicode, WordStartHalfUnicode, WordEndHalfUnicode, Side, Absent, WordCharacter, Other, byte_before, byte_after, is_word_neighbor, exactly_one, is_invalid, is_word_side, is_absent_or_other, holds_at_bytes, holds_at_sides, IsBefore, IsAfter, Holds, is_unicode, AgreesWithAscii}
 use Rattle.rsc_look.proofs.HoldsLemmas.{at_sides, Holds-bytes, Holds-sides, side_is, side_is_after}
 
@@ -97,7 +97,7 @@ by_word_characters WordEndHalfUnicode a b = not b
 by_word_characters _ a b = false
 
 of_bytes : (l : Look) (t : ℕ) (p n : Option ℕ) → is_unicode l ≡ true
-    → holds_at_bytes (ascii_of l) t p n ≡ by_word_characters l (is_word_neighbor p) (is_word_neighbor n)
+    → holds_at_bytes (ascii_counterpart l) t p n ≡ by_word_characters l (is_word_neighbor p) (is_word_neighbor n)
 unfolding by_word_characters
 of_bytes WordUnicode t p n u = cc
 of_bytes _ t p n u = cc
@@ -127,18 +127,18 @@ valid chars (Some b) agrees low = subst (λ x. IsValid (cond (chars b) WordChara
     go true = record { invalid = refl; is_word_character = refl; absent_or_other = refl }
     go false = record { invalid = refl; is_word_character = refl; absent_or_other = refl }
 
-ascii_is_bytes : (l : Look) → is_unicode (ascii_of l) ≡ false
+ascii_is_bytes : (l : Look) → is_unicode (ascii_counterpart l) ≡ false
 ascii_is_bytes WordUnicode = refl
 ascii_is_bytes _ = refl
 
-own : (l : Look) → (is_unicode l ≡ true) ⊎ (ascii_of l ≡ l)
+own : (l : Look) → (is_unicode l ≡ true) ⊎ (ascii_counterpart l ≡ l)
 own WordUnicode = search rules
 own _ = search rules
 
 -- between neighbours that are absent or below 128, a Unicode assertion is its ASCII counterpart
 pub ascii_suffices : (l : Look) (t : ℕ) (chars : ℕ → Bool) (h : List ℕ) (i : ℕ) → i ≤ length h → AgreesWithAscii chars
     → IfSome (byte_before h i) (λ b. b < 128)
-    → IfSome (byte_after h i) (λ b. b < 128) → Holds l t chars h i ↔ Holds (ascii_of l) t chars h i
+    → IfSome (byte_after h i) (λ b. b < 128) → Holds l t chars h i ↔ Holds (ascii_counterpart l) t chars h i
 ascii_suffices l t chars h i low agrees before after = go (own l)
   where
     p : Option ℕ
@@ -147,15 +147,15 @@ ascii_suffices l t chars h i low agrees before after = go (own l)
     n : Option ℕ
     n = byte_after h i
 
-    go : (is_unicode l ≡ true) ⊎ (ascii_of l ≡ l) → Holds l t chars h i ↔ Holds (ascii_of l) t chars h i
+    go : (is_unicode l ≡ true) ⊎ (ascii_counterpart l ≡ l) → Holds l t chars h i ↔ Holds (ascii_counterpart l) t chars h i
     go (inr e) = subst (λ m. Holds l t chars h i ↔ Holds m t chars h i) (sym e) ((λ x. x), (λ x. x))
     go (inl u) =
-        let same : holds_at_sides l (ascii_side chars p) (ascii_side chars n) ≡ holds_at_bytes (ascii_of l) t p n =
+        let same : holds_at_sides l (ascii_side chars p) (ascii_side chars n) ≡ holds_at_bytes (ascii_counterpart l) t p n =
         of_sides l (ascii_side chars p) (ascii_side chars n) (is_word_neighbor p) (is_word_neighbor n) u
         (valid chars p agrees before) (valid chars n agrees after) ∙ sym (of_bytes l t p n u) in
         let s = at_sides l chars h i (ascii_side chars p) (ascii_side chars n) (ascii_before chars h i low before) (ascii_after chars h i low after) in
-        let k = Holds-sides l t chars h i u in let b = Holds-bytes (ascii_of l) t chars h i (ascii_is_bytes l) in
-        let v = is_true (holds_at_bytes (ascii_of l) t p n) in (
+        let k = Holds-sides l t chars h i u in let b = Holds-bytes (ascii_counterpart l) t chars h i (ascii_is_bytes l) in
+        let v = is_true (holds_at_bytes (ascii_counterpart l) t p n) in (
           (λ x. b.1 (v.0 (sym same ∙ s.1 (k.0 x)))),
           (λ y. k.1 (s.0 (same ∙ v.1 (b.0 y)))),
         )

@@ -5,12 +5,12 @@ pub use Rattle.rsc_primitives.specs.Utf8.{is_word_byte, IsInside, EncodedFrom, B
 pub use Rattle.rsc_alphabet.specs.ByteSets.{Numbers}
 pub use Rattle.rsc_alphabet.specs.Bytes.{from_to}
 pub use Rattle.rsc_alphabet.specs.BytesLaws.{from_to_parts, filter_none, filter_first, filter_same}
-pub use Rattle.rsc_alphabet.specs.Partitions.{Together, HasBoundariesOf, class_map, boundaries_of_range, is_boundary_of_set}
+pub use Rattle.rsc_alphabet.specs.Partitions.{AreTogether, HasBoundariesOf, class_map, boundaries_of_range, is_boundary_of_set}
 pub use Rattle.rsc_alphabet.specs.PartitionsLaws.{contains-joined, contains-boundaries_of_range, class_map_same, union_none, union_assoc}
 pub use Rattle.rsc_alphabet.specs.SameMembers.{same_members, same_bools, same_from, same_to}
-pub use Rattle.rsc_look.specs.Boundaries.{boundaries_of_each, boundaries_of, word_byte_boundaries}
+pub use Rattle.rsc_look.specs.Boundaries.{boundaries_of_looks, boundaries_of_look, word_byte_boundaries}
 pub use Rattle.rsc_look.specs.Holds.{byte_before, is_byte, is_word_neighbor, holds_at_bytes, byte_after, Holds, IsBefore, IsAfter, holds_at_sides, exactly_one, is_invalid, is_word_side, HoldsAtSides, is_absent_or_other}
-pub use Rattle.rsc_look.specs.Keeping.{AreInterchanged, IsHaystack, DifferInAscii, Keeps, IsCoarsest, AgreesWithAscii, AgreesWhereAsked, Tells, IsNeeded, IsCoarsestMap, IsExactFor}
+pub use Rattle.rsc_look.specs.Keeping.{AreInterchanged, IsHaystack, DifferInAscii, Keeps, IsCoarsest, AgreesWithAscii, AgreesWhereAsked, Tells, IsNeeded, IsCoarsestMap, HasNeededBoundaries}
 pub use Rattle.rsc_look.specs.KeepingLaws.{alike_alone, not_told, same_as_only, is_its_member}
 pub use Rattle.rsc_look.specs.LookSetLaws.{look_cmp_total, repr_of-injective, contains-filtered, repr_of-look_at, bit_of-look_at, every_look-is, contains-looks_of, tied, look_cmp-IsAntisymmetric, same_looks, repr_of-pow, bit_of-lt, bits_of-looks_of, looks_of-bits_of, bits_of-lt, every_look_has}
 pub use Rattle.rsc_look.specs.LookSetLayout.{bit_of, looks_of, look_at}

@@ -12,16 +12,16 @@ unfoldable pub word_byte_boundaries : Numbers
 word_byte_boundaries = sets.from_list (0x2F ∷ 0x39 ∷ 0x40 ∷ 0x5A ∷ 0x5E ∷ 0x5F ∷ 0x60 ∷ 0x7A ∷ [])
 
 -- the boundaries of an assertion, for the line terminator t
-abbrev pub boundaries_of : Look → ℕ → Numbers
-boundaries_of Start t = sets.empty
-boundaries_of End t = sets.empty
-boundaries_of StartLF t = boundaries_of_range (t, t)
-boundaries_of EndLF t = boundaries_of_range (t, t)
-boundaries_of StartCRLF t = sets.union (boundaries_of_range (carriage_return, carriage_return)) (boundaries_of_range (line_feed, line_feed))
-boundaries_of EndCRLF t = sets.union (boundaries_of_range (carriage_return, carriage_return)) (boundaries_of_range (line_feed, line_feed))
-boundaries_of _ t = word_byte_boundaries
+abbrev pub boundaries_of_look : Look → ℕ → Numbers
+boundaries_of_look Start t = sets.empty
+boundaries_of_look End t = sets.empty
+boundaries_of_look StartLF t = boundaries_of_range (t, t)
+boundaries_of_look EndLF t = boundaries_of_range (t, t)
+boundaries_of_look StartCRLF t = sets.union (boundaries_of_range (carriage_return, carriage_return)) (boundaries_of_range (line_feed, line_feed))
+boundaries_of_look EndCRLF t = sets.union (boundaries_of_range (carriage_return, carriage_return)) (boundaries_of_range (line_feed, line_feed))
+boundaries_of_look _ t = word_byte_boundaries
 
 -- the boundaries of all members of a list
-abbrev pub boundaries_of_each : List Look → ℕ → Numbers
-boundaries_of_each [] t = sets.empty
-boundaries_of_each (l ∷ rest) t = sets.union (boundaries_of l t) (boundaries_of_each rest t)
+abbrev pub boundaries_of_looks : List Look → ℕ → Numbers
+boundaries_of_looks [] t = sets.empty
+boundaries_of_looks (l ∷ rest) t = sets.union (boundaries_of_look l t) (boundaries_of_looks rest t)

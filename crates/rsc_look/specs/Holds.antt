@@ -31,7 +31,7 @@ abbrev pub exactly_one : Bool → Bool → Bool
 exactly_one true b = not b
 exactly_one false b = b
 
--- the table of the twelve: t is the line terminator, p the byte before and n the byte after
+-- whether an assertion that looks at bytes holds, and false for the six of characters: t is the line terminator, p the byte before and n the byte after
 abbrev pub holds_at_bytes : Look → ℕ → Option ℕ → Option ℕ → Bool
 holds_at_bytes Start t p n = is_none p
 holds_at_bytes End t p n = is_none n
@@ -54,7 +54,7 @@ IsBefore chars h i Invalid = (0 < i) × ((c : ℕ) → ¬ (EndsAt h i c))
 IsBefore chars h i WordCharacter = (c : ℕ) × EndsAt h i c × (chars c ≡ true)
 IsBefore chars h i Other = (c : ℕ) × EndsAt h i c × (chars c ≡ false)
 
--- the side after a position, likewise
+-- the side after a position, for the word characters chars: no byte; bytes that begin no character; a character that chars accepts, or rejects
 abbrev pub IsAfter : (ℕ → Bool) → List ℕ → ℕ → Side → Type 0
 IsAfter chars h i Absent = i ≡ length h
 IsAfter chars h i Invalid = (i < length h) × ((c : ℕ) → ¬ (BeginsAt h i c))

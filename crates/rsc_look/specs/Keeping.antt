@@ -4,11 +4,11 @@ use Rattle.std.specs.Prelude.{◌≡◌, ◌≢◌, ◌↔◌, ℕ, ◌+◌, ◌
 use Rattle.std.specs.List.{All, Contains}
 use Rattle.std.specs.FinSet as sets
 use Rattle.rsc_primitives.specs.Utf8.{is_word_byte}
-use Rattle.rsc_alphabet.specs.Partitions.{Together, HasBoundariesOf, class_map}
+use Rattle.rsc_alphabet.specs.Partitions.{AreTogether, HasBoundariesOf, class_map}
 use Rattle.rsc_look.specs.declared.assertion.Look.{Look}
 use Rattle.rsc_look.specs.Looks.{is_unicode}
 use Rattle.rsc_look.specs.Holds.{Holds}
-use Rattle.rsc_look.specs.Boundaries.{boundaries_of}
+use Rattle.rsc_look.specs.Boundaries.{boundaries_of_look}
 
 -- a list of bytes
 abbrev pub IsHaystack : List ℕ → Type 0
@@ -19,7 +19,7 @@ pub record AreInterchanged (p : ℕ → Bool) (h k : List ℕ) : Type 0 where
   pub first : IsHaystack h
   pub second : IsHaystack k
   pub same_length : length h ≡ length k
-  pub together : (i : ℕ) → i < length h → Together p (slice_index h i) (slice_index k i)
+  pub together : (i : ℕ) → i < length h → AreTogether p (slice_index h i) (slice_index k i)
 
 -- wherever two haystacks differ, both bytes are below 128
 abbrev pub DifferInAscii : List ℕ → List ℕ → Type 0
@@ -33,7 +33,7 @@ pub record Keeps (p : ℕ → Bool) (looks : List Look) (t : ℕ) (chars : ℕ �
   pub at_characters : (l : Look) → Contains looks l → is_unicode l ≡ true → (h k : List ℕ) → AreInterchanged p h k → DifferInAscii h k
       → (i : ℕ) → i ≤ length h → Holds l t chars h i ↔ Holds l t chars k i
 
--- it keeps them, and each of its boundaries belongs to every partition that does
+-- the partition keeps the listed assertions, and each of its boundaries belongs to every partition that keeps them
 pub record IsCoarsest (p : ℕ → Bool) (looks : List Look) (t : ℕ) (chars : ℕ → Bool) : Type 0 where
   pub keeps : Keeps p looks t chars
   pub least : (q : ℕ → Bool) → Keeps q looks t chars → (b : ℕ) → b < 255 → p b ≡ true → q b ≡ true
@@ -65,9 +65,9 @@ pub record IsCoarsestMap (m : List ℕ) (looks : List Look) (t : ℕ) (chars : �
   pub coarsest : IsCoarsest boundaries looks t chars
   pub needed : (b : ℕ) → b < 255 → boundaries b ≡ true → IsNeeded b looks t chars
 
--- every partition with the boundaries of p keeps the assertion l, each boundary of l belongs to every partition that keeps l,
--- and l tells the bytes on both sides of it
-pub record IsExactFor (p : ℕ → Bool) (l : Look) (t : ℕ) (chars : ℕ → Bool) : Type 0 where
+-- p has the boundaries that the assertion l needs: every partition with the boundaries of p keeps l, each boundary of l belongs to every
+-- partition that keeps l, and l tells the bytes on both sides of it apart
+pub record HasNeededBoundaries (p : ℕ → Bool) (l : Look) (t : ℕ) (chars : ℕ → Bool) : Type 0 where
   pub kept : (q : ℕ → Bool) → HasBoundariesOf q p → Keeps q (l ∷ []) t chars
-  pub least : (q : ℕ → Bool) → Keeps q (l ∷ []) t chars → (b : ℕ) → b < 255 → sets.contains (boundaries_of l t) b ≡ true → q b ≡ true
-  pub needed : (b : ℕ) → b < 255 → sets.contains (boundaries_of l t) b ≡ true → IsNeeded b (l ∷ []) t chars
+  pub least : (q : ℕ → Bool) → Keeps q (l ∷ []) t chars → (b : ℕ) → b < 255 → sets.contains (boundaries_of_look l t) b ≡ true → q b ≡ true
+  pub needed : (b : ℕ) → b < 255 → sets.contains (boundaries_of_look l t) b ≡ true → IsNeeded b (l ∷ []) t chars

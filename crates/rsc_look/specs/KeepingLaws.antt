@@ -4,7 +4,7 @@ use Rattle.std.specs.Prelude.{slice_index}
 use Rattle.std.specs.List.{Contains}
 use Rattle.std.proofs.lemmas.List.Elements.{All-cons, All-nil}
 use Rattle.std.proofs.lemmas.Bool.Decides.{nat_tests}
-use Rattle.rsc_alphabet.specs.Partitions.{Together}
+use Rattle.rsc_alphabet.specs.Partitions.{AreTogether}
 use Rattle.rsc_look.specs.declared.assertion.Look.{Look}
 use Rattle.rsc_look.specs.Words.{is_unicode_word}
 use Rattle.rsc_look.specs.Keeping.{IsHaystack, AreInterchanged, AgreesWithAscii}
@@ -13,7 +13,7 @@ one_byte_haystack : (b : ℕ) → b < 256 → IsHaystack (b ∷ [])
 one_byte_haystack b h = All-cons (λ x. x < 256) b [] h (All-nil (λ x. x < 256))
 
 -- where there is no boundary between two bytes they are together
-pub next_together : (q : ℕ → Bool) (b : ℕ) → q b ≡ false → Together q b (b + 1)
+pub next_together : (q : ℕ → Bool) (b : ℕ) → q b ≡ false → AreTogether q b (b + 1)
 next_together q b e x low high is = let same : b ≡ x = omega arith in true≢false (sym is ∙ ap q (sym same) ∙ e)
 
 -- and the haystacks of one of these bytes each are interchanged
@@ -25,7 +25,7 @@ alike_alone q b h e = record {
   together = go;
 }
   where
-    go : (i : ℕ) → i < 1 → Together q (slice_index (b ∷ []) i) (slice_index ((b + 1) ∷ []) i)
+    go : (i : ℕ) → i < 1 → AreTogether q (slice_index (b ∷ []) i) (slice_index ((b + 1) ∷ []) i)
     go zero l = next_together q b e
     go (suc i) l = absurd (omega arith)
 

@@ -49,11 +49,11 @@ unicode_word_assertions = WordUnicode ∷ WordUnicodeNegate ∷ WordStartUnicode
 abbrev pub word_assertions : List Look
 word_assertions = unicode_word_assertions ++ ascii_word_assertions
 
--- how members in order are shown, and the empty set: each by its character, or `∅`
+-- the character that shows an assertion, in UTF-8
 abbrev pub look_text : Look → List ℕ
 look_text l = encode_utf8 (char_of l)
 
 -- the characters of the assertions in order, or `∅` without one
-abbrev pub text_of_looks : List Look → List ℕ
-text_of_looks [] = encode_utf8 0x2205
-text_of_looks looks = flat_map look_text looks
+abbrev pub looks_text : List Look → List ℕ
+looks_text [] = encode_utf8 0x2205
+looks_text looks = flat_map look_text looks

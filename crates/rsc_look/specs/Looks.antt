@@ -53,7 +53,7 @@ char_of WordEndHalfAscii = 0x25B7
 char_of WordStartHalfUnicode = 0x25C0
 char_of WordEndHalfUnicode = 0x25B6
 
--- all of them, by ascending number
+-- all assertions, by ascending number
 unfoldable pub every_look : List Look
 every_look =
     Start ∷ End ∷ StartLF ∷ EndLF ∷ StartCRLF ∷ EndCRLF ∷ WordAscii ∷ WordAsciiNegate ∷ WordUnicode ∷ WordUnicodeNegate
@@ -71,14 +71,14 @@ is_unicode WordEndHalfUnicode = true
 is_unicode _ = false
 
 -- the assertion that asks of bytes what a Unicode one asks of characters; any other is its own
-abbrev pub ascii_of : Look → Look
-ascii_of WordUnicode = WordAscii
-ascii_of WordUnicodeNegate = WordAsciiNegate
-ascii_of WordStartUnicode = WordStartAscii
-ascii_of WordEndUnicode = WordEndAscii
-ascii_of WordStartHalfUnicode = WordStartHalfAscii
-ascii_of WordEndHalfUnicode = WordEndHalfAscii
-ascii_of look = look
+abbrev pub ascii_counterpart : Look → Look
+ascii_counterpart WordUnicode = WordAscii
+ascii_counterpart WordUnicodeNegate = WordAsciiNegate
+ascii_counterpart WordStartUnicode = WordStartAscii
+ascii_counterpart WordEndUnicode = WordEndAscii
+ascii_counterpart WordStartHalfUnicode = WordStartHalfAscii
+ascii_counterpart WordEndHalfUnicode = WordEndHalfAscii
+ascii_counterpart look = look
 
 -- the assertion's counterpart at the other end
 abbrev pub reversed : Look → Look

@@ -15,7 +15,7 @@ is_word_category DecimalNumber = true
 is_word_category ConnectorPunctuation = true
 is_word_category _ = false
 
--- below 128 the word bytes; from there on what is alphabetic, of a category above, or one of the two joiners
+-- below 128 the word bytes; from there on what is alphabetic, of category Mn, Mc, Me, Nd or Pc, or one of the two joiners
 abbrev pub is_unicode_word : ℕ → Bool
 is_unicode_word c =
     if nat_lt c 128 then is_word_byte c

@@ -55,7 +55,7 @@ pub enum Look {
 }
 
 impl Look {
-    ghost use Rattle.rsc_look.specs.Looks.{repr_of, char_of, reversed, ascii_of, is_unicode};
+    ghost use Rattle.rsc_look.specs.Looks.{repr_of, char_of, reversed, ascii_counterpart, is_unicode};
 
     /// The assertion's counterpart at the other end: `End` for `Start`, and so on.
     #[inline]
@@ -98,8 +98,8 @@ impl Look {
     /// ```
     #[inline]
     pub fn ascii_counterpart(self) -> Look
-        ensures value { result ≡ ascii_of self }
-        ensures bytes { is_unicode result ≡ false }
+        ensures value { result ≡ ascii_counterpart self }
+        ensures ascii { is_unicode result ≡ false }
     {
         match self {
             Look::WordUnicode => Look::WordAscii,

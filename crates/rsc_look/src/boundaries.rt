@@ -9,8 +9,8 @@ ghost use Rattle.std.specs.Int.{is_in_range};
 ghost use Rattle.rsc_primitives.specs.Utf8.{is_word_byte};
 ghost use Rattle.rsc_alphabet.specs.Partitions.{LastClassIsGreatest, class_map};
 ghost use Rattle.rsc_look.specs.Looks.{is_unicode};
-ghost use Rattle.rsc_look.specs.Boundaries.{word_byte_boundaries, boundaries_of, boundaries_of_each};
-ghost use Rattle.rsc_look.specs.Keeping.{AgreesWithAscii, AgreesWhereAsked, IsCoarsestMap, IsExactFor};
+ghost use Rattle.rsc_look.specs.Boundaries.{word_byte_boundaries, boundaries_of_look, boundaries_of_looks};
+ghost use Rattle.rsc_look.specs.Keeping.{AgreesWithAscii, AgreesWhereAsked, IsCoarsestMap, HasNeededBoundaries};
 
 use crate::matcher::{CARRIAGE_RETURN, LINE_FEED};
 use crate::{Look, LookMatcher, WordClass};
@@ -33,10 +33,10 @@ impl<W: WordClass> LookMatcher<W> {
     /// assert!(rt; classes.get(b'c') != classes.get(b'd') && classes.get(b'\n') != classes.get(b'\r'));
     /// ```
     pub fn add_to_byteset(&self, look: Look, set: &mut ByteClassSet)
-        ensures value { set.new ≡ sets.union set.old (boundaries_of look self.now.0) }
-        ensures members { (b : ℕ) → sets.contains set.new b ≡ (sets.contains set.old b || sets.contains (boundaries_of look self.now.0) b) }
-        ensures exact { (is_unicode look ≡ true → AgreesWithAscii (W.word_chars self.now.1)) →
-            IsExactFor (sets.contains set.new) look self.now.0 (W.word_chars self.now.1) }
+        ensures value { set.new ≡ sets.union set.old (boundaries_of_look look self.now.0) }
+        ensures members { (b : ℕ) → sets.contains set.new b ≡ (sets.contains set.old b || sets.contains (boundaries_of_look look self.now.0) b) }
+        ensures boundaries { (is_unicode look ≡ true → AgreesWithAscii (W.word_chars self.now.1)) →
+            HasNeededBoundaries (sets.contains set.new) look self.now.0 (W.word_chars self.now.1) }
     {
         add_boundaries(self.get_line_terminator(), look, set);
     }
@@ -56,7 +56,7 @@ impl<W: WordClass> LookMatcher<W> {
     /// assert!(rt; classes.get(b'a') == classes.get(b'z') && classes.get(b'a') != classes.get(b'-'));
     /// ```
     pub fn classes_of(&self, looks: &[Look]) -> ByteClasses
-        ensures value { result ≡ class_map (sets.contains (boundaries_of_each looks.now self.now.0)) }
+        ensures value { result ≡ class_map (sets.contains (boundaries_of_looks looks.now self.now.0)) }
         ensures coarsest { AgreesWhereAsked (W.word_chars self.now.1) looks.now →
             IsCoarsestMap result looks.now self.now.0 (W.word_chars self.now.1) }
         ensures bounded { LastClassIsGreatest result }
@@ -117,7 +117,7 @@ fn is_unicode(look: Look) -> bool
 
 // Adds the boundaries of an assertion to a set.
 fn add_boundaries(line_terminator: u8, look: Look, set: &mut ByteClassSet)
-    ensures { set.new ≡ sets.union set.old (boundaries_of look line_terminator) }
+    ensures { set.new ≡ sets.union set.old (boundaries_of_look look line_terminator) }
 {
     match look {
         Look::Start | Look::End => {}

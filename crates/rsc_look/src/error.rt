@@ -23,9 +23,9 @@ impl UnicodeWordBoundaryError {
 
 impl fmt::Display for UnicodeWordBoundaryError {
     ghost use Rattle.std.specs.Prelude.{Some};
-    ghost use Rattle.rsc_look.specs.ErrorTexts.{missing_tables};
+    ghost use Rattle.rsc_look.specs.ErrorTexts.{unicode_word_boundary_error_text};
 
-    ghost output = { λ _. Some missing_tables };
+    ghost output = { λ _. Some unicode_word_boundary_error_text };
 
     fn fmt<W: fmt::Write>(&self, f: &mut fmt::Formatter<W>) -> fmt::Result {
         write!(

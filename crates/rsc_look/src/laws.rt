@@ -6,11 +6,11 @@ ghost use Rattle.rsc_primitives.specs.Utf8.{is_word_byte};
 ghost use Rattle.rsc_alphabet.specs.Partitions.{HasBoundariesOf};
 ghost use Rattle.rsc_look.specs.declared.assertion.Look.{Look};
 ghost use Rattle.rsc_look.specs.declared.side.Side.{Side};
-ghost use Rattle.rsc_look.specs.Looks.{is_unicode, ascii_of, line_feed};
+ghost use Rattle.rsc_look.specs.Looks.{is_unicode, ascii_counterpart, line_feed};
 ghost use Rattle.rsc_look.specs.LookSets.{Looks};
 ghost use Rattle.rsc_look.specs.Holds.{Holds, IsBefore, IsAfter, byte_before, byte_after};
-ghost use Rattle.rsc_look.specs.Boundaries.{boundaries_of};
-ghost use Rattle.rsc_look.specs.Keeping.{IsHaystack, DifferInAscii, Keeps, AgreesWithAscii, IsCoarsest, IsCoarsestMap, IsExactFor};
+ghost use Rattle.rsc_look.specs.Boundaries.{boundaries_of_look};
+ghost use Rattle.rsc_look.specs.Keeping.{IsHaystack, DifferInAscii, Keeps, AgreesWithAscii, IsCoarsest, IsCoarsestMap, HasNeededBoundaries};
 ghost use Rattle.rsc_look.specs.Words.{is_unicode_word};
 
 use crate::{
@@ -41,14 +41,15 @@ pub fn same_classes_change_nothing()
 
 /// A partition with the boundaries of an assertion keeps it, and each of them is needed, for a Unicode assertion if the word characters
 /// agree with ASCII: what [`crate::LookMatcher::add_to_byteset`] says of the set that it leaves.
-#[tactic(auto, using(crate::proofs::KeepingLemmas::IsExactFor_own))]
+#[tactic(auto, using(crate::proofs::KeepingLemmas::HasNeededBoundaries_own))]
 pub fn boundaries_are_exact()
-    ensures { (l : Look) (t : ℕ) (chars : ℕ → Bool) → (is_unicode l ≡ true → AgreesWithAscii chars) → IsExactFor (sets.contains (boundaries_of l t)) l t chars }
+    ensures { (l : Look) (t : ℕ) (chars : ℕ → Bool) → (is_unicode l ≡ true → AgreesWithAscii chars) →
+        HasNeededBoundaries (sets.contains (boundaries_of_look l t)) l t chars }
 {}
 
 /// A partition that keeps two lists keeps the one after the other, and it keeps the empty list.
 pub fn kept_lists_are_joined()
-    ensures none { (p : ℕ → Bool) (t : ℕ) (chars : ℕ → Bool) → Keeps p [] t chars }
+    ensures empty { (p : ℕ → Bool) (t : ℕ) (chars : ℕ → Bool) → Keeps p [] t chars }
     ensures both { (p : ℕ → Bool) (some others : List Look) (t : ℕ) (chars : ℕ → Bool) →
         Keeps p some t chars → Keeps p others t chars → Keeps p (some ++ others) t chars }
 {}
@@ -56,7 +57,7 @@ pub fn kept_lists_are_joined()
 /// A partition with the boundaries of one that keeps a list keeps it too. The coarsest partition of two lists together has the boundaries of the
 /// coarsest of each, and no others.
 pub fn coarsest_lists_are_joined()
-    ensures finer { (p q : ℕ → Bool) (looks : List Look) (t : ℕ) (chars : ℕ → Bool) →
+    ensures finer_keeps { (p q : ℕ → Bool) (looks : List Look) (t : ℕ) (chars : ℕ → Bool) →
         HasBoundariesOf q p → Keeps p looks t chars → Keeps q looks t chars }
     ensures both { (p q : ℕ → Bool) (some others : List Look) (t : ℕ) (chars : ℕ → Bool) →
         IsCoarsest p some t chars → IsCoarsest q others t chars → IsCoarsest (λ b. p b || q b) (some ++ others) t chars }
@@ -76,7 +77,7 @@ pub fn each_position_has_two_sides()
 pub fn ascii_neighbours_suffice()
     ensures { (l : Look) (t : ℕ) (chars : ℕ → Bool) (h : List ℕ) (i : ℕ) → i ≤ length h → AgreesWithAscii chars →
         IfSome (byte_before h i) (λ b. b < 128) → IfSome (byte_after h i) (λ b. b < 128) →
-        Holds l t chars h i ↔ Holds (ascii_of l) t chars h i }
+        Holds l t chars h i ↔ Holds (ascii_counterpart l) t chars h i }
 {}
 
 /// Below 128 the word characters of [`AsciiWord`] and of [`UnicodeWord`] are the word bytes, which is what
@@ -91,7 +92,7 @@ pub fn words_agree_with_ascii()
 /// The empty set has no member; a set with one more member has that one and its own.
 #[tactic(auto, using(crate::proofs::LookSetsLemmas::grown, crate::proofs::LookSetLayoutLemmas::looks_of_none, crate::proofs::LookSetLayoutLemmas::contains_looks_of))]
 pub fn members_of_grown_sets()
-    ensures none { (l : Look) → sets.contains (let s : Looks = sets.empty in s) l ≡ false }
+    ensures empty { (l : Look) → sets.contains (let s : Looks = sets.empty in s) l ≡ false }
     ensures grown { (s : Looks) (l m : Look) → (sets.contains (sets.insert s l) m ≡ true) ↔ ((l ≡ m) ⊎ (sets.contains s m ≡ true)) }
 {}
 

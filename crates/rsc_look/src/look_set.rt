@@ -89,9 +89,9 @@ impl Default for LookSet {
 
 impl fmt::Debug for LookSet {
     ghost use Rattle.std.specs.Prelude.{Some};
-    ghost use Rattle.rsc_look.specs.LookSets.{members, text_of_looks};
+    ghost use Rattle.rsc_look.specs.LookSets.{members, looks_text};
 
-    ghost debug_output = { λ s. Some (text_of_looks (members s)) };
+    ghost debug_output = { λ s. Some (looks_text (members s)) };
 
     fn fmt<W: fmt::Write>(&self, f: &mut fmt::Formatter<W>) -> fmt::Result {
         if self.is_empty() {

@@ -11,17 +11,17 @@ use Rattle.rsc_alphabet.specs.ByteSets.{Numbers}
 use Rattle.rsc_alphabet.specs.PartitionsLaws.{contains-joined, union_none}
 use Rattle.rsc_nfa.specs.declared.state.State.{State}
 use Rattle.rsc_nfa.specs.declared.state.State.TheVariants.{ByteRange, Assert, Fork, Capture, Accept}
-use Rattle.rsc_nfa.specs.Classes.{boundaries_of_state, boundaries_of_states, asks_characters, has_unicode, AreInterchangedBy, KeepsRuns, IsStepNeeded, IsEachNeeded, KeepsRunsUnder, HasNoSpareBoundary}
+use Rattle.rsc_nfa.specs.Classes.{boundaries_of_state, boundaries_of_states, asks_characters, has_unicode_assertion, AreInterchangedBy, KeepsRuns, IsStepNeeded, IsEachBoundaryNeeded, KeepsRunsUnder, HasNoSpareBoundary}
 use Rattle.std.proofs.lemmas.Option.{slice_get-get_or, get_or_from_slice_get, slice_get_within}
 use Rattle.rsc_look.specs.KeepingLaws.{is_its_member, next_together, alike_alone, not_told, same_as_only}
-use Rattle.rsc_alphabet.specs.Partitions.{Together, class_map, boundaries_of_range}
+use Rattle.rsc_alphabet.specs.Partitions.{AreTogether, class_map, boundaries_of_range}
 use Rattle.rsc_alphabet.specs.Ranges.{holds}
 use Rattle.rsc_look.specs.declared.assertion.Look.{Look}
 use Rattle.rsc_look.specs.Looks.{is_unicode}
 use Rattle.rsc_look.specs.Holds.{Holds}
-use Rattle.rsc_look.specs.Boundaries.{boundaries_of}
-use Rattle.rsc_look.specs.Keeping.{AreInterchanged, DifferInAscii, Keeps, AgreesWithAscii, IsExactFor, IsNeeded, Tells}
-use Rattle.rsc_nfa.specs.Steps.{is_between, StepsTo, IsStep, IsRun, place, IsWithin}
+use Rattle.rsc_look.specs.Boundaries.{boundaries_of_look}
+use Rattle.rsc_look.specs.Keeping.{AreInterchanged, DifferInAscii, Keeps, AgreesWithAscii, HasNeededBoundaries, IsNeeded, Tells}
+use Rattle.rsc_nfa.specs.Steps.{is_between, StepsTo, IsStep, IsRun, place, IsPlaceWithin}
 use Rattle.std.proofs.lemmas.Bool.Decides.{nat_tests}
 use Rattle.std.proofs.lemmas.Bool.{true_from_ne_false}
 use Rattle.rsc_captures.specs.Groups.{GroupLists}
@@ -91,17 +91,17 @@ AreGathered-all set states t n l gathered =
 
 -- two bytes have one class exactly if they are together
 abbrev pub OneClassIsTogether : (ℕ → Bool) → Type 0
-OneClassIsTogether p = (b c : ℕ) → b < 256 → c < 256 → (slice_index (class_map p) b ≡ slice_index (class_map p) c) ↔ Together p b c
+OneClassIsTogether p = (b c : ℕ) → b < 256 → c < 256 → (slice_index (class_map p) b ≡ slice_index (class_map p) c) ↔ AreTogether p b c
 
 -- bytes that are together are both in a range or both outside, where the partition has its boundaries
 abbrev pub RangesAreKept : (ℕ → Bool) → Type 0
 RangesAreKept p =
     (r : ℕ × ℕ) (b c : ℕ) → b < 256 → c < 256 → ((k : ℕ) → k < 255 → sets.contains (boundaries_of_range r) k ≡ true → p k ≡ true)
-    → Together p b c → holds r b ≡ holds r c
+    → AreTogether p b c → holds r b ≡ holds r c
 
 -- the boundaries of an assertion are exact for it
 abbrev pub AreExact : ℕ → (ℕ → Bool) → Type 0
-AreExact t chars = (l : Look) → (is_unicode l ≡ true → AgreesWithAscii chars) → IsExactFor (sets.contains (boundaries_of l t)) l t chars
+AreExact t chars = (l : Look) → (is_unicode l ≡ true → AgreesWithAscii chars) → HasNeededBoundaries (sets.contains (boundaries_of_look l t)) l t chars
 
 -- the partition has the boundaries of the state
 abbrev pub HasBoundariesOfState : (ℕ → Bool) → State → ℕ → Type 0
@@ -140,8 +140,8 @@ same_between p a b i h k ranges has s l =
     ∙ sym (ap (is_between a b) (slice_get-get_or k i 0 u))
 
 Holds-moves : (p : ℕ → Bool) (l : Look) (t : ℕ) (chars : ℕ → Bool) (h k : List ℕ) (i : ℕ)
-    → IsExactFor (sets.contains (boundaries_of l t)) l t chars
-    → ((q : ℕ) → sets.contains (boundaries_of l t) q ≡ true → p q ≡ true)
+    → HasNeededBoundaries (sets.contains (boundaries_of_look l t)) l t chars
+    → ((q : ℕ) → sets.contains (boundaries_of_look l t) q ≡ true → p q ≡ true)
     → AreInterchanged p h k → (is_unicode l ≡ true → DifferInAscii h k) → i ≤ length h → Holds l t chars h i → Holds l t chars k i
 Holds-moves p l t chars h k i e has s d r x = go (is_unicode l) refl
   where
@@ -167,7 +167,7 @@ StepsTo-moves p (Accept a) t chars h k end i to ranges exact has g s d e r x = x
 
 -- a state that asks for characters is one of the list
 pub asks-listed : (states : List State) (s : ℕ) (state : State) → slice_get states s ≡ Some state → asks_characters state ≡ true
-    → has_unicode states ≡ true
+    → has_unicode_assertion states ≡ true
 asks-listed states s state e a =
     list_any_at asks_characters states s state (slice_get_within states s state e) (ap asks_characters (get_or_from_slice_get states s state state e) ∙ a)
 
@@ -187,8 +187,8 @@ HasBoundariesOfStates p states t = (s : ℕ) (state : State) → slice_get state
 
 module _ (p : ℕ → Bool) (states : List State) (t : ℕ) (chars : ℕ → Bool) (ranges : RangesAreKept p) (exact : AreExact t chars)
     (all : HasBoundariesOfStates p states t)
-    (ascii : has_unicode states ≡ true → AgreesWithAscii chars) where
-  IsStep-moves : (h k : List ℕ) (end : ℕ) (from to : ℕ × ℕ) → AreInterchanged p h k → (has_unicode states ≡ true → DifferInAscii h k)
+    (ascii : has_unicode_assertion states ≡ true → AgreesWithAscii chars) where
+  IsStep-moves : (h k : List ℕ) (end : ℕ) (from to : ℕ × ℕ) → AreInterchanged p h k → (has_unicode_assertion states ≡ true → DifferInAscii h k)
       → end ≤ length h
       → from.1 ≤ end → IsStep states t chars h end from to → IsStep states t chars k end from to
   IsStep-moves h k end from to s d e r x =
@@ -198,7 +198,7 @@ module _ (p : ℕ → Bool) (states : List State) (t : ℕ) (chars : ℕ → Boo
       rw q (StepsTo-moves p state t chars h k end from.1 to ranges exact (all from.0 state q) (λ a. ascii (asks-listed states from.0 state q a)) s
       (λ a. d (asks-listed states from.0 state q a)) e r here.2)
 
-  IsRun-moves : (h k : List ℕ) (start end : ℕ) (run : List (ℕ × ℕ)) → AreInterchanged p h k → (has_unicode states ≡ true → DifferInAscii h k)
+  IsRun-moves : (h k : List ℕ) (start end : ℕ) (run : List (ℕ × ℕ)) → AreInterchanged p h k → (has_unicode_assertion states ≡ true → DifferInAscii h k)
       → end ≤ length h
       → IsRun states t chars h start end run → IsRun states t chars k start end run
   IsRun-moves h k start end run s d e r = record {
@@ -210,10 +210,10 @@ module _ (p : ℕ → Bool) (states : List State) (t : ℕ) (chars : ℕ → Boo
   pub KeepsRuns-from : (m : List ℕ) → OneClassIsTogether p → m ≡ class_map p → KeepsRuns m states t chars
   KeepsRuns-from m law is = record { kept = both }
     where
-      both : (h k : List ℕ) → AreInterchangedBy m (has_unicode states) h k → (start end : ℕ) → end ≤ length h
+      both : (h k : List ℕ) → AreInterchangedBy m (has_unicode_assertion states) h k → (start end : ℕ) → end ≤ length h
           → (run : List (ℕ × ℕ)) → IsRun states t chars h start end run ↔ IsRun states t chars k start end run
       both h k s start end e run =
-          let back = AreInterchangedBy-sym m (has_unicode states) h k s in (
+          let back = AreInterchangedBy-sym m (has_unicode_assertion states) h k s in (
             IsRun-moves h k start end run (AreInterchanged-from p m _ h k law is s) s.in_ascii e,
             IsRun-moves k h start end run (AreInterchanged-from p m _ k h law is back) back.in_ascii (omega (arith, s.same_length)),
           )
@@ -309,12 +309,12 @@ step-needed states t chars b s state lt e told = record {
 }
 
 -- each boundary is needed by a state
-pub IsEachNeeded-from : (groups : GroupLists) (states : List State) (t : ℕ) (chars : ℕ → Bool) (m : List ℕ) → RangesHaveBoundaries
+pub IsEachBoundaryNeeded-from : (groups : GroupLists) (states : List State) (t : ℕ) (chars : ℕ → Bool) (m : List ℕ) → RangesHaveBoundaries
     → AreExact t chars
-    → AreFaultless groups states → (has_unicode states ≡ true → AgreesWithAscii chars)
+    → AreFaultless groups states → (has_unicode_assertion states ≡ true → AgreesWithAscii chars)
     → OneClassIsTogether (sets.contains (boundaries_of_states states t))
-    → m ≡ class_map (sets.contains (boundaries_of_states states t)) → IsEachNeeded m states t chars
-IsEachNeeded-from groups states t chars m boundaries exact faultless ascii law is b lt differ =
+    → m ≡ class_map (sets.contains (boundaries_of_states states t)) → IsEachBoundaryNeeded m states t chars
+IsEachBoundaryNeeded-from groups states t chars m boundaries exact faultless ascii law is b lt differ =
     let at_boundary : sets.contains (boundaries_of_states states t) b ≡ true = true_from_ne_false (sets.contains (boundaries_of_states states t) b) (λ e.
     let one_class = (law b (b + 1) (omega arith) (omega arith)).1 (next_together (sets.contains (boundaries_of_states states t)) b e) in
     differ (subst (λ x. slice_index x b ≡ slice_index x (b + 1)) (sym is) one_class)) in
@@ -326,11 +326,11 @@ IsEachNeeded-from groups states t chars m boundaries exact faultless ascii law i
 
 -- ---- each boundary belongs to every partition that keeps the runs
 
-two : (states : List State) (t : ℕ) (chars : ℕ → Bool) (h : List ℕ) (p q : ℕ × ℕ) → IsWithin states 0 1 p → IsWithin states 0 1 q
+two : (states : List State) (t : ℕ) (chars : ℕ → Bool) (h : List ℕ) (p q : ℕ × ℕ) → IsPlaceWithin states 0 1 p → IsPlaceWithin states 0 1 q
     → IsStep states t chars h 1 p q → IsRun states t chars h 0 1 (p ∷ (q ∷ []))
 two states t chars h p q u v s = record { places = places; steps = steps }
   where
-    places : (k : ℕ) → k < 2 → IsWithin states 0 1 (place (p ∷ (q ∷ [])) k)
+    places : (k : ℕ) → k < 2 → IsPlaceWithin states 0 1 (place (p ∷ (q ∷ [])) k)
     places zero l = u
     places (suc zero) l = v
     places (suc (suc k)) l = absurd (omega arith)
@@ -351,10 +351,10 @@ needed-parts q states t chars b lt keeps n = true_from_ne_false (q b) (λ e.
     from : ℕ × ℕ
     from = (n.state, n.position)
 
-    u : IsWithin states 0 1 from
+    u : IsPlaceWithin states 0 1 from
     u = (n.there, omega arith, n.at_an_end)
 
 -- classes whose boundaries are needed are the coarsest
-pub HasNoSpareBoundary-from : (m : List ℕ) (states : List State) (t : ℕ) (chars : ℕ → Bool) → IsEachNeeded m states t chars
+pub HasNoSpareBoundary-from : (m : List ℕ) (states : List State) (t : ℕ) (chars : ℕ → Bool) → IsEachBoundaryNeeded m states t chars
     → HasNoSpareBoundary m states t chars
 HasNoSpareBoundary-from m states t chars needed q keeps b lt differ = needed-parts q states t chars b lt keeps (needed b lt differ)

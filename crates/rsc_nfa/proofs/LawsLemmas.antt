@@ -9,9 +9,9 @@ use Rattle.rsc_look.specs.Looks.{is_unicode}
 use Rattle.rsc_look.specs.Holds.{Holds, HoldsAtSides, holds_at_bytes, byte_before, byte_after}
 use Rattle.rsc_nfa.specs.declared.state.State.{State}
 use Rattle.rsc_nfa.specs.declared.state.State.TheVariants.{ByteRange, Assert, Fork, Capture, Accept}
-use Rattle.rsc_nfa.specs.Classes.{asks_characters, has_unicode, KeepsRuns, AreInterchangedBy}
+use Rattle.rsc_nfa.specs.Classes.{asks_characters, has_unicode_assertion, KeepsRuns, AreInterchangedBy}
 use Rattle.rsc_nfa.specs.StateFaults.{AreFaultless, IsStateWithin}
-use Rattle.rsc_nfa.specs.Steps.{is_between, StepsTo, IsStep, IsRun, IsWithin, place, recorded, AreClosed}
+use Rattle.rsc_nfa.specs.Steps.{is_between, StepsTo, IsStep, IsRun, IsPlaceWithin, place, recorded, RecordsAreFollowed}
 use Rattle.rsc_nfa.proofs.StepsLemmas.{recorded-last}
 use Rattle.rsc_nfa.proofs.ClassesLemmas.{asks-listed, step_of, AreInterchangedBy-sym}
 use Rattle.rsc_nfa.proofs.StateFaultsLemmas.{faultless-names}
@@ -31,7 +31,7 @@ Holds-local l t chars h k i j plain before after x =
     subst (λ (p : Option ℕ). IsTrue (holds_at_bytes l t p (byte_after k j))) before
     (subst (λ (n : Option ℕ). IsTrue (holds_at_bytes l t (byte_before h i) n)) after y)) x
 
-asks-none : (states : List State) (s : ℕ) (state : State) → slice_get states s ≡ Some state → has_unicode states ≡ false
+asks-none : (states : List State) (s : ℕ) (state : State) → slice_get states s ≡ Some state → has_unicode_assertion states ≡ false
     → asks_characters state ≡ false
 asks-none states s state e none =
     false_from_ne_true (asks_characters state) (λ a. true≢false (sym (asks-listed states s state e a) ∙ none))
@@ -55,7 +55,7 @@ StepsTo-advances (Capture slot next) t chars h k end last i j u after room x = a
 StepsTo-advances (Accept p) t chars h k end last i j u after room x = x
 
 -- a step that stays looks at no more than the byte before and the byte after
-pub IsStep-stays : (states : List State) (t : ℕ) (chars : ℕ → Bool) (h k : List ℕ) (end last i j s u : ℕ) → has_unicode states ≡ false
+pub IsStep-stays : (states : List State) (t : ℕ) (chars : ℕ → Bool) (h k : List ℕ) (end last i j s u : ℕ) → has_unicode_assertion states ≡ false
     → byte_before h i ≡ byte_before k j → byte_after h i ≡ byte_after k j
     → IsStep states t chars h end (s, i) (u, i) → IsStep states t chars k last (s, j) (u, j)
 IsStep-stays states t chars h k end last i j s u none before after x =
@@ -138,11 +138,11 @@ positions-rise states t chars h start end run r j (suc k) l m =
 -- ---- runs grow
 
 -- a place is a run
-pub run-one : (states : List State) (t : ℕ) (chars : ℕ → Bool) (h : List ℕ) (start end : ℕ) (p : ℕ × ℕ) → IsWithin states start end p
+pub run-one : (states : List State) (t : ℕ) (chars : ℕ → Bool) (h : List ℕ) (start end : ℕ) (p : ℕ × ℕ) → IsPlaceWithin states start end p
     → IsRun states t chars h start end (p ∷ [])
 run-one states t chars h start end p within = record { places = λ k l. only k (omega (arith, l)); steps = λ k l. absurd (omega (arith, l)) }
   where
-    only : (k : ℕ) → k ≡ 0 → IsWithin states start end (place (p ∷ []) k)
+    only : (k : ℕ) → k ≡ 0 → IsPlaceWithin states start end (place (p ∷ []) k)
     only k z = rw z within
 
 place-before : (run : List (ℕ × ℕ)) (p : ℕ × ℕ) (k : ℕ) → k < length run → place (run ++ p ∷ []) k ≡ place run k
@@ -171,20 +171,20 @@ run-more states t chars h start end run p r some known leads = record {
       (cases_lt (k + 1) (length run));
 }
   where
-    from : IsWithin states start end (place run (length run - 1))
+    from : IsPlaceWithin states start end (place run (length run - 1))
     from = r.places (length run - 1) (omega (arith, some))
 
     low : (place run (length run - 1)).1 ≤ p.1
     low = no_fall states t chars h end (place run (length run - 1)) p leads
 
-    there : IsWithin states start end p
+    there : IsPlaceWithin states start end p
     there = (known, omega (arith, low, from.1), step-within states t chars h end (place run (length run - 1)) p from.2 leads)
 
 -- ---- a step goes by the classes of the bytes
 
 step-forth : (classes : List ℕ) (states : List State) (t : ℕ) (chars : ℕ → Bool) (h k : List ℕ) (end : ℕ) (p q : ℕ × ℕ)
     → KeepsRuns classes states t chars
-    → AreInterchangedBy classes (has_unicode states) h k → end ≤ length h → p.1 ≤ end → q.0 < length states
+    → AreInterchangedBy classes (has_unicode_assertion states) h k → end ≤ length h → p.1 ≤ end → q.0 < length states
     → IsStep states t chars h end p q → IsStep states t chars k end p q
 step-forth classes states t chars h k end p q keeps same within low known x =
     let one = run-one states t chars h 0 end p (step-from states t chars h end p q x, omega arith, low) in
@@ -193,11 +193,11 @@ step-forth classes states t chars h k end p q keeps same within low known x =
 -- replacing bytes within their classes makes or unmakes no step
 pub step-kept : (classes : List ℕ) (states : List State) (t : ℕ) (chars : ℕ → Bool) (h k : List ℕ) (end : ℕ) (p q : ℕ × ℕ)
     → KeepsRuns classes states t chars
-    → AreInterchangedBy classes (has_unicode states) h k → end ≤ length h → p.1 ≤ end → q.0 < length states
+    → AreInterchangedBy classes (has_unicode_assertion states) h k → end ≤ length h → p.1 ≤ end → q.0 < length states
     → IsStep states t chars h end p q ↔ IsStep states t chars k end p q
 step-kept classes states t chars h k end p q keeps same within low known = (
   step-forth classes states t chars h k end p q keeps same within low known,
-  step-forth classes states t chars k h end p q keeps (AreInterchangedBy-sym classes (has_unicode states) h k same)
+  step-forth classes states t chars k h end p q keeps (AreInterchangedBy-sym classes (has_unicode_assertion states) h k same)
       (omega (arith, within, same.same_length)) low known,
 )
 
@@ -206,7 +206,7 @@ step-kept classes states t chars h k end p q keeps same within low known = (
 -- where each record in one slot is followed by one in another, the positions are in order
 pub records-ordered : (states : List State) (t : ℕ) (chars : ℕ → Bool) (h : List ℕ) (start end : ℕ) (run : List (ℕ × ℕ))
     → IsRun states t chars h start end run
-    → (first second i j : ℕ) → AreClosed states run first second → recorded states run first ≡ Some i → recorded states run second ≡ Some j
+    → (first second i j : ℕ) → RecordsAreFollowed states run first second → recorded states run first ≡ Some i → recorded states run second ≡ Some j
     → i ≤ j
 records-ordered states t chars h start end run is_run first second i j closed e f =
     let r = (recorded-last states run first i).0 e in let s = (recorded-last states run second j).0 f in

@@ -6,14 +6,14 @@ use Rattle.std.proofs.lemmas.Bool.{or_left}
 use Rattle.std.proofs.lemmas.Bool.Decides.{nat_tests}
 use Rattle.std.proofs.lemmas.List.{take_all, take_more}
 use Rattle.rsc_alphabet.specs.ByteSets.{Numbers}
-use Rattle.rsc_alphabet.specs.Partitions.{Together, class_map}
+use Rattle.rsc_alphabet.specs.Partitions.{AreTogether, class_map}
 use Rattle.rsc_alphabet.specs.PartitionsLaws.{contains-joined}
 use Rattle.rsc_look.specs.declared.assertion.Look.{Look}
 use Rattle.rsc_look.specs.declared.assertion.Look.TheVariants.{WordUnicode}
 use Rattle.rsc_look.specs.LookSets.{Looks, unicode_word_assertions}
 use Rattle.rsc_nfa.specs.declared.state.State.{State}
 use Rattle.rsc_nfa.specs.declared.state.State.TheVariants.{ByteRange, Assert, Fork, Capture, Accept}
-use Rattle.rsc_nfa.specs.Classes.{boundaries_of_states, asks_characters, has_unicode, asserts, IsFiner, KeepsRuns, AreInterchangedBy}
+use Rattle.rsc_nfa.specs.Classes.{boundaries_of_states, asks_characters, has_unicode_assertion, asserts, IsFiner, KeepsRuns, AreInterchangedBy}
 use Rattle.rsc_nfa.specs.Steps.{is_capture_of, or_earlier, recorded}
 use Rattle.rsc_nfa.specs.RecordsLayout.{slot_recorded, put_offset}
 use Rattle.rsc_nfa.proofs.ClassesLemmas.{OneClassIsTogether, HasBoundariesOfStates, HasBoundariesOfStates-from}
@@ -39,7 +39,7 @@ pub finer_from : (p q : ℕ → Bool) (finer : List ℕ) → OneClassIsTogether 
     → ((k : ℕ) → p k ≡ true → q k ≡ true) → IsFiner finer (class_map p)
 finer_from p q finer of_p of_q is has = record {
   together = λ b c l m same.
-      let apart : Together q b c = (of_q b c l m).0 (subst (λ x. slice_index x b ≡ slice_index x c) is same) in
+      let apart : AreTogether q b c = (of_q b c l m).0 (subst (λ x. slice_index x b ≡ slice_index x c) is same) in
       (of_p b c l m).1 (λ k low high at_boundary. apart k low high (has k at_boundary));
 }
 
@@ -49,7 +49,7 @@ pub finer_keeps : (classes finer : List ℕ) (states : List State) (t : ℕ) (ch
     → KeepsRuns finer states t chars
 finer_keeps classes finer states t chars keeps is = record { kept = λ h k same. keeps.kept h k (coarser h k same) }
   where
-    coarser : (h k : List ℕ) → AreInterchangedBy finer (has_unicode states) h k → AreInterchangedBy classes (has_unicode states) h k
+    coarser : (h k : List ℕ) → AreInterchangedBy finer (has_unicode_assertion states) h k → AreInterchangedBy classes (has_unicode_assertion states) h k
     coarser h k same = record {
       first = same.first;
       second = same.second;
@@ -82,14 +82,14 @@ of_state (Assert _ next) = refl
 of_state _ = refl
 
 -- one of the Unicode assertions is a member exactly if some state asks for characters
-pub unicode_of_states : (states : List State) → list_any (λ u. list_any (asserts u) states) unicode_word_assertions ≡ has_unicode states
+pub unicode_of_states : (states : List State) → list_any (λ u. list_any (asserts u) states) unicode_word_assertions ≡ has_unicode_assertion states
 unicode_of_states [] = refl
 unicode_of_states (s ∷ rest) =
     any_or (λ u. asserts u s) (λ u. list_any (asserts u) rest) unicode_word_assertions ∙ ap₂ (λ x y. x || y) (of_state s) (unicode_of_states rest)
 
 -- the same of a set that has the assertions of the states
 pub HasLooks-unicode : (set : Looks) (states : List State) → HasLooks set states
-    → list_any (λ u. sets.contains set u) unicode_word_assertions ≡ has_unicode states
+    → list_any (λ u. sets.contains set u) unicode_word_assertions ≡ has_unicode_assertion states
 HasLooks-unicode set states has = same unicode_word_assertions ∙ unicode_of_states states
   where
     same : (us : List Look) → list_any (λ u. sets.contains set u) us ≡ list_any (λ u. list_any (asserts u) states) us

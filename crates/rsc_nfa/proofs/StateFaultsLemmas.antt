@@ -2,7 +2,7 @@
 use Rattle.std.proofs.Common.{◌≡◌, ℕ, ◌*◌, ◌<◌, Bool, true, false, nat_lt, cond, List, length, refl, subst, arith, slice_get, Option, Some, None}
 use Rattle.std.proofs.lemmas.Bool.Decides.{nat_tests}
 use Rattle.std.proofs.lemmas.Option.{slice_get_within}
-use Rattle.rsc_captures.specs.Groups.{GroupLists, all_groups}
+use Rattle.rsc_captures.specs.Groups.{GroupLists, all_group_count}
 use Rattle.rsc_nfa.specs.declared.state.State.{State}
 use Rattle.rsc_nfa.specs.declared.state.State.TheVariants.{ByteRange, Assert, Fork, Capture, Accept}
 use Rattle.rsc_nfa.specs.declared.error.BuildError.{BuildError}
@@ -31,7 +31,7 @@ fault-none groups n s (ByteRange a b next) q =
 fault-none groups n s (Assert l next) q = target-known n s next q
 fault-none groups n s (Fork a b) q = let both = neither _ _ q in (target-known n s a both.0, target-known n s b both.1)
 fault-none groups n s (Capture slot next) q =
-    let both = neither _ _ q in let e : nat_lt slot (2 * all_groups groups) ≡ true = passed _ _ both.1 in
+    let both = neither _ _ q in let e : nat_lt slot (2 * all_group_count groups) ≡ true = passed _ _ both.1 in
     (target-known n s next both.0, grind (arith, nat_tests))
 fault-none groups n s (Accept p) q = let e : nat_lt p (length groups) ≡ true = passed _ _ q in grind (arith, nat_tests)
 

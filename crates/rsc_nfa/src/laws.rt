@@ -4,9 +4,9 @@ ghost use Rattle.rsc_captures.specs.Groups.{GroupLists};
 ghost use Rattle.rsc_look.specs.Holds.{byte_before, byte_after};
 ghost use Rattle.rsc_nfa.specs.declared.state.State.{State};
 ghost use Rattle.rsc_nfa.specs.declared.error.BuildError.{BuildError};
-ghost use Rattle.rsc_nfa.specs.Classes.{has_unicode, KeepsRuns, AreInterchangedBy, IsFiner};
+ghost use Rattle.rsc_nfa.specs.Classes.{has_unicode_assertion, KeepsRuns, AreInterchangedBy, IsFiner};
 ghost use Rattle.rsc_nfa.specs.StateFaults.{AreFaultless, IsStateWithin};
-ghost use Rattle.rsc_nfa.specs.Steps.{IsStep, IsRun, IsWithin, place, recorded, IsLastRecord, AreClosed};
+ghost use Rattle.rsc_nfa.specs.Steps.{IsStep, IsRun, IsPlaceWithin, place, recorded, IsLastRecord, RecordsAreFollowed};
 
 use crate::{BuildError, State};
 
@@ -19,7 +19,7 @@ pub fn last_record_counts()
 /// A step is local: one that stays looks at the byte before its position and the byte after it alone, where no state asserts something of
 /// characters; one that goes past a byte looks at that byte alone. So a haystack with the same neighbours has the same steps.
 pub fn a_step_is_local()
-    ensures stays { (states : List State) (t : ℕ) (chars : ℕ → Bool) (h k : List ℕ) (end last i j s u : ℕ) → has_unicode states ≡ false →
+    ensures stays { (states : List State) (t : ℕ) (chars : ℕ → Bool) (h k : List ℕ) (end last i j s u : ℕ) → has_unicode_assertion states ≡ false →
         byte_before h i ≡ byte_before k j → byte_after h i ≡ byte_after k j →
         IsStep states t chars h end (s, i) (u, i) → IsStep states t chars k last (s, j) (u, j) }
     ensures advances { (states : List State) (t : ℕ) (chars : ℕ → Bool) (h k : List ℕ) (end last i j s u : ℕ) →
@@ -30,7 +30,7 @@ pub fn a_step_is_local()
 /// Replacing bytes within classes that keep runs makes or unmakes no step to a state of the list.
 pub fn a_step_is_kept()
     ensures { (classes : List ℕ) (states : List State) (t : ℕ) (chars : ℕ → Bool) (h k : List ℕ) (end : ℕ) (p q : ℕ × ℕ) →
-        KeepsRuns classes states t chars → AreInterchangedBy classes (has_unicode states) h k → end ≤ length h → p.1 ≤ end → q.0 < length states →
+        KeepsRuns classes states t chars → AreInterchangedBy classes (has_unicode_assertion states) h k → end ≤ length h → p.1 ≤ end → q.0 < length states →
         IsStep states t chars h end p q ↔ IsStep states t chars k end p q }
 {}
 
@@ -41,7 +41,7 @@ pub fn where_a_step_leads()
         IsStep states t chars h end p q → p.0 < length states }
     ensures position { (states : List State) (t : ℕ) (chars : ℕ → Bool) (h : List ℕ) (end : ℕ) (p q : ℕ × ℕ) →
         IsStep states t chars h end p q → (q.1 ≡ p.1) ⊎ ((q.1 ≡ p.1 + 1) × (p.1 < end)) }
-    ensures names { (groups : GroupLists) (states : List State) → AreFaultless groups states →
+    ensures within { (groups : GroupLists) (states : List State) → AreFaultless groups states →
         (s : ℕ) (state : State) → slice_get states s ≡ Some state → IsStateWithin groups (length states) state }
     ensures to { (groups : GroupLists) (states : List State) (t : ℕ) (chars : ℕ → Bool) (h : List ℕ) (end : ℕ) (p q : ℕ × ℕ) →
         AreFaultless groups states → IsStep states t chars h end p q → q.0 < length states }
@@ -49,12 +49,12 @@ pub fn where_a_step_leads()
 
 /// A place is a run, and so are a run and a step from its last place to a state of the list. Positions along a run never fall.
 pub fn runs_grow()
-    ensures one { (states : List State) (t : ℕ) (chars : ℕ → Bool) (h : List ℕ) (start end : ℕ) (p : ℕ × ℕ) →
-        IsWithin states start end p → IsRun states t chars h start end (p ∷ []) }
-    ensures more { (states : List State) (t : ℕ) (chars : ℕ → Bool) (h : List ℕ) (start end : ℕ) (run : List (ℕ × ℕ)) (p : ℕ × ℕ) →
+    ensures single { (states : List State) (t : ℕ) (chars : ℕ → Bool) (h : List ℕ) (start end : ℕ) (p : ℕ × ℕ) →
+        IsPlaceWithin states start end p → IsRun states t chars h start end (p ∷ []) }
+    ensures grown { (states : List State) (t : ℕ) (chars : ℕ → Bool) (h : List ℕ) (start end : ℕ) (run : List (ℕ × ℕ)) (p : ℕ × ℕ) →
         IsRun states t chars h start end run → 0 < length run → p.0 < length states → IsStep states t chars h end (place run (length run - 1)) p →
         IsRun states t chars h start end (run ++ p ∷ []) }
-    ensures positions { (states : List State) (t : ℕ) (chars : ℕ → Bool) (h : List ℕ) (start end : ℕ) (run : List (ℕ × ℕ)) →
+    ensures order { (states : List State) (t : ℕ) (chars : ℕ → Bool) (h : List ℕ) (start end : ℕ) (run : List (ℕ × ℕ)) →
         IsRun states t chars h start end run → (j k : ℕ) → j ≤ k → k < length run → (place run j).1 ≤ (place run k).1 }
 {}
 
@@ -68,7 +68,7 @@ pub fn finer_classes_keep_runs()
 /// second: with the slots of a match's start and end this is what [`rsc_captures::Captures::get_match`] needs.
 pub fn records_are_in_order()
     ensures { (states : List State) (t : ℕ) (chars : ℕ → Bool) (h : List ℕ) (start end : ℕ) (run : List (ℕ × ℕ)) →
-        IsRun states t chars h start end run → (first second i j : ℕ) → AreClosed states run first second →
+        IsRun states t chars h start end run → (first second i j : ℕ) → RecordsAreFollowed states run first second →
         recorded states run first ≡ Some i → recorded states run second ≡ Some j → i ≤ j }
 {}
 

@@ -5,11 +5,11 @@ ghost use Rattle.std.specs.FinSet as sets;
 ghost use Rattle.rsc_alphabet.specs.Partitions.{LastClassIsGreatest, class_map};
 ghost use Rattle.rsc_look.specs.Keeping.{AgreesWithAscii};
 ghost use Rattle.rsc_nfa.specs.Automata.{Automaton};
-ghost use Rattle.rsc_nfa.specs.Classes.{IsOrdered, IsFiner, asserts, boundaries_of_state, boundaries_of_states, has_unicode, KeepsRuns, IsEachNeeded, HasNoSpareBoundary};
-ghost use Rattle.rsc_nfa.specs.StateFaults.{target_fault, fault_of_state, AreFaultless, IsFirstFaulty};
+ghost use Rattle.rsc_nfa.specs.Classes.{IsOrdered, IsFiner, asserts, boundaries_of_state, boundaries_of_states, has_unicode_assertion, KeepsRuns, IsEachBoundaryNeeded, HasNoSpareBoundary};
+ghost use Rattle.rsc_nfa.specs.StateFaults.{target_fault, fault_of_state, AreFaultless, IsFirstFaultOfStates};
 ghost use Rattle.rsc_look.specs.declared.assertion.Look.{Look};
 ghost use Rattle.rsc_look.specs.LookSets.{has_one_of, unicode_word_assertions};
-ghost use Rattle.rsc_nfa.specs.Steps.{IsStep, IsRun, IsWithin, recorded};
+ghost use Rattle.rsc_nfa.specs.Steps.{IsStep, IsRun, IsPlaceWithin, recorded};
 ghost use Rattle.rsc_nfa.specs.RecordsLayout.{put_offset, slot_recorded};
 ghost use Rattle.rsc_nfa.specs.declared.error.BuildError.TheVariants.{OutOfMemory};
 
@@ -131,7 +131,7 @@ fn check<A: Allocator + Clone + Drop>(
     states: &[State],
 ) -> Result<(), BuildError>
     ensures faultless { OnOk result (AreFaultless group_info.now states.now) }
-    ensures refused { IfErr result (IsFirstFaulty group_info.now states.now) }
+    ensures refused { IfErr result (IsFirstFaultOfStates group_info.now states.now) }
 {
     for (s, state) in states.iter().enumerate() {
         if let Some(fault) = check_state(group_info, states.len(), s, *state) {
@@ -193,7 +193,7 @@ impl<W: WordClass, A: Allocator + Clone + Drop> Nfa<W, A> {
     ) -> Result<Nfa<W, A>, BuildError>
         ensures made { IfOk result (λ n. n ≡ record { states = states.now; groups = group_info; matcher = matcher }) }
         ensures faultless { OnOk result (AreFaultless group_info states.now) }
-        ensures refused { IfErr result (λ e. ((e ≡ OutOfMemory) × AreFaultless group_info states.now) ⊎ IsFirstFaulty group_info states.now e) }
+        ensures refused { IfErr result (λ e. ((e ≡ OutOfMemory) × AreFaultless group_info states.now) ⊎ IsFirstFaultOfStates group_info states.now e) }
     {
         check(&group_info, states)?;
         let states = Vec::from_slice(alloc, states)?;
@@ -242,11 +242,11 @@ impl<W: WordClass, A: Allocator + Clone + Drop> Nfa<W, A> {
         ensures value { result ≡ class_map (sets.contains (boundaries_of_states self.now.states self.now.matcher.0)) }
         ensures bounded { LastClassIsGreatest result }
         ensures faultless { AreFaultless self.now.groups self.now.states }
-        ensures keeps_runs { (has_unicode self.now.states ≡ true → AgreesWithAscii (W.word_chars self.now.matcher.1)) →
+        ensures keeps_runs { (has_unicode_assertion self.now.states ≡ true → AgreesWithAscii (W.word_chars self.now.matcher.1)) →
             KeepsRuns result self.now.states self.now.matcher.0 (W.word_chars self.now.matcher.1) }
-        ensures needed { (has_unicode self.now.states ≡ true → AgreesWithAscii (W.word_chars self.now.matcher.1)) →
-            IsEachNeeded result self.now.states self.now.matcher.0 (W.word_chars self.now.matcher.1) }
-        ensures coarsest { has_unicode self.now.states ≡ false →
+        ensures needed { (has_unicode_assertion self.now.states ≡ true → AgreesWithAscii (W.word_chars self.now.matcher.1)) →
+            IsEachBoundaryNeeded result self.now.states self.now.matcher.0 (W.word_chars self.now.matcher.1) }
+        ensures no_spare_boundary { has_unicode_assertion self.now.states ≡ false →
             HasNoSpareBoundary result self.now.states self.now.matcher.0 (W.word_chars self.now.matcher.1) }
     {
         rsc_alphabet::laws::one_class_is_together();
@@ -286,7 +286,7 @@ impl<W: WordClass, A: Allocator + Clone + Drop> Nfa<W, A> {
         ensures bounded { LastClassIsGreatest result }
         ensures parted { (b : ℕ) → b < 255 → sets.contains more.now b ≡ true → ¬ (slice_index result b ≡ slice_index result (b + 1)) }
         ensures finer { IsFiner result (class_map (sets.contains (boundaries_of_states self.now.states self.now.matcher.0))) }
-        ensures keeps_runs { (has_unicode self.now.states ≡ true → AgreesWithAscii (W.word_chars self.now.matcher.1)) →
+        ensures keeps_runs { (has_unicode_assertion self.now.states ≡ true → AgreesWithAscii (W.word_chars self.now.matcher.1)) →
             KeepsRuns result self.now.states self.now.matcher.0 (W.word_chars self.now.matcher.1) }
     {
         rsc_alphabet::laws::one_class_is_together();
@@ -306,7 +306,7 @@ impl<W: WordClass, A: Allocator + Clone + Drop> Nfa<W, A> {
     /// ```
     pub fn looks(&self) -> LookSet
         ensures members { (look : Look) → sets.contains result look ≡ list_any (asserts look) self.now.states }
-        ensures unicode { has_one_of result unicode_word_assertions ≡ has_unicode self.now.states }
+        ensures unicode { has_one_of result unicode_word_assertions ≡ has_unicode_assertion self.now.states }
     {
         let mut looks = LookSet::empty();
         for state in self.states.iter() {
@@ -317,7 +317,7 @@ impl<W: WordClass, A: Allocator + Clone + Drop> Nfa<W, A> {
 
     // Whether a state is the automaton's, and a position within the span.
     fn is_within(&self, input: &Input<'_>, place: (StateID, usize)) -> bool
-        ensures { IsTrue result ↔ IsWithin self.now.states input.now.span.start input.now.span.end place }
+        ensures { IsTrue result ↔ IsPlaceWithin self.now.states input.now.span.start input.now.span.end place }
     {
         place.0.as_usize() < self.states.len() && input.start() <= place.1 && place.1 <= input.end()
     }
@@ -418,7 +418,7 @@ impl<W: WordClass, A: Allocator + Clone + Drop> Nfa<W, A> {
         ensures kept_groups { captures.new.groups ≡ captures.old.groups }
         ensures kept_pattern { captures.new.pattern ≡ captures.old.pattern }
         ensures kept_slots { length captures.new.offsets ≡ length captures.old.offsets }
-        ensures records { (slot : ℕ) → slot < length captures.old.offsets →
+        ensures value { (slot : ℕ) → slot < length captures.old.offsets →
             slice_index_or captures.new.offsets slot None ≡ recorded self.now.states run.now slot }
     {
         let pattern = captures.pattern();

@@ -5,22 +5,22 @@ use Rattle.std.proofs.lemmas.List.FromFn.{length-map-range_with_len, get_or-map-
 use Rattle.rsc_search.specs.Inputs.{InputParts, whole}
 use Rattle.rsc_search.specs.Matches.{Matched}
 use Rattle.rsc_captures.specs.Captured.{Captured, group_span}
-use Rattle.rsc_captures.specs.Groups.{Groups, GroupLists, all_groups, group_count}
+use Rattle.rsc_captures.specs.Groups.{Groups, GroupLists, all_group_count, group_count}
 use Rattle.rsc_engine.specs.Searches.{Compiled, search_in}
-use Rattle.rsc_engine.specs.NextMatches.{IsNextMatch, IsOver, from_start}
+use Rattle.rsc_engine.specs.NextMatches.{IsNextMatch, IsOver, with_start}
 use Rattle.rsc_engine.specs.Patterns.{Pattern, Subject}
 use Rattle.rsc_engine.specs.PreferredWays.{IsPreferredWay}
 use Rattle.rsc_engine.specs.GroupNumbers.{as_whole}
 use Rattle.rsc_engine.specs.Ways.{last_in}
 use Rattle.rsc_engine.specs.PatternMatches.{HasSlotsOf}
 use Rattle.rsc_engine.specs.OnePattern.{IsMatchOfOne, IsWayOfOne, IsLeftOutOfOne, IsNextOfOne, IsOverOfOne}
-use Rattle.rsc_replace.specs.Replacements.{MatchWith, AreAllWith, with_matches_filled}
+use Rattle.rsc_replace.specs.Replacements.{MatchWithCaptures, AreAllWithCaptures, with_matches_filled}
 use Rattle.rsc_replace.specs.PartReplacements.{Way, captures_of, match_of_way, IsNextWay, AreAllWays, IsPartReplaced}
 use Rattle.rsc_replace.proofs.ReplacementsLemmas.{same_list, same_captures}
 
 -- a text from a position on
 abbrev rest_of : List ℕ → ℕ → InputParts
-rest_of text from = from_start (whole text) from
+rest_of text from = with_start (whole text) from
 
 -- the matches of a program of one pattern in a text are ways of the pattern, as laws say
 pub record AreWays {W : Type 0} (chars : W → ℕ → Bool) (program : Compiled W) (groups : Groups) (p : Pattern) (x : Subject) : Type 0 where
@@ -46,8 +46,8 @@ module _ {W : Type 0} (chars : W → ℕ → Bool) (program : Compiled W) (group
   next_way from last captures found next room =
       let one = its.ways from last captures found next in
       let w : Way = record { start = found.span.start; end = found.span.end; records = one.records } in
-      let count = 2 * all_groups (groups ∷ []) in
-      let slots : length captures.offsets ≡ count = room.1 ∙ ap (λ (lists : GroupLists). 2 * all_groups lists) its.lists in
+      let count = 2 * all_group_count (groups ∷ []) in
+      let slots : length captures.offsets ≡ count = room.1 ∙ ap (λ (lists : GroupLists). 2 * all_group_count lists) its.lists in
       let lists : captures.groups ≡ groups ∷ [] = room.0 ∙ its.lists in
       let offsets : captures.offsets ≡ map (last_in one.records) (range_with_len 0 count) =
       same_list None captures.offsets (map (last_in one.records) (range_with_len 0 count))
@@ -68,8 +68,8 @@ module _ {W : Type 0} (chars : W → ℕ → Bool) (program : Compiled W) (group
             ∙ ap (λ (c : Captured). record { found = record { pattern = 0; span = found.span }; captures = c }) same,
       )
 
-  all_ways : (from : ℕ) (last : Option ℕ) (all : List MatchWith)
-      → AreAllWith chars (record { program = program; input = rest_of x.haystack from; last = last }) all
+  all_ways : (from : ℕ) (last : Option ℕ) (all : List MatchWithCaptures)
+      → AreAllWithCaptures chars (record { program = program; input = rest_of x.haystack from; last = last }) all
       → (ways : List Way) × AreAllWays x groups p last from ways × (all ≡ map (match_of_way groups) ways)
   all_ways from last [] over = ([], its.over from last over, refl)
   all_ways from last (m ∷ rest) all =
@@ -83,12 +83,12 @@ module _ {W : Type 0} (chars : W → ℕ → Bool) (program : Compiled W) (group
       let same : m ∷ rest ≡ match_of_way groups w ∷ map (match_of_way groups) more.0 = cc in
       (w ∷ more.0, (first.2, later), same)
 
-  pub part_replaced : (template out : List ℕ) (all : List MatchWith)
-      → AreAllWith chars (record { program = program; input = whole x.haystack; last = None }) all
+  pub part_replaced : (template out : List ℕ) (all : List MatchWithCaptures)
+      → AreAllWithCaptures chars (record { program = program; input = whole x.haystack; last = None }) all
       → out ≡ with_matches_filled x.haystack template 0 all → IsPartReplaced x groups p template out
   part_replaced template out all are is =
       let ways = all_ways 0 None all are in
-      (ways.0, ways.1, is ∙ ap (λ (list : List MatchWith). with_matches_filled x.haystack template 0 list) ways.2)
+      (ways.0, ways.1, is ∙ ap (λ (list : List MatchWithCaptures). with_matches_filled x.haystack template 0 list) ways.2)
 
 -- there is one preferred way of a pattern from a position
 pub record OneWay : Type 0 where

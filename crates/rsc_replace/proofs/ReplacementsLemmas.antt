@@ -7,9 +7,9 @@ use Rattle.rsc_captures.specs.Captured.{Captured}
 use Rattle.rsc_captures.specs.Groups.{GroupLists}
 use Rattle.rsc_engine.specs.Searches.{Search, search_in}
 use Rattle.rsc_engine.specs.PatternMatches.{HasSlotsOf}
-use Rattle.rsc_engine.specs.NextMatches.{MatchesLeft, IsNext, IsNextMatch, IsOver, after}
+use Rattle.rsc_engine.specs.NextMatches.{MatchesLeft, IsNextRun, IsNextMatch, IsOver, after}
 use Rattle.rsc_replace.specs.Templates.{filled}
-use Rattle.rsc_replace.specs.Replacements.{MatchWith, AreAllWith, AreFirstWith, with_matches_filled, IsReplaced, IsReplacedUpTo}
+use Rattle.rsc_replace.specs.Replacements.{MatchWithCaptures, AreAllWithCaptures, AreFirstWithCaptures, with_matches_filled, IsReplaced, IsReplacedUpTo}
 
 -- the text so far: with what is left replaced after it, all of the first is replaced
 pub record IsBegun {W : Type 0} (chars : W → ℕ → Bool) (template : List ℕ) (first now : MatchesLeft W) (out : List ℕ) : Type 0 where
@@ -64,10 +64,10 @@ same_captures c d g p o =
 pub record OneNext : Type 0 where
   pub next : (e : Search) (last : Option ℕ) (one other : Captured) (m n : Matched) → IsNextMatch e last one m → IsNextMatch e last other n
       → one.groups ≡ other.groups → length one.offsets ≡ length other.offsets → (m ≡ n) × (one ≡ other)
-  pub over : (e : Search) (last : Option ℕ) (run : List (ℕ × ℕ)) → IsOver e last → IsNext e last run → ⊥
+  pub over : (e : Search) (last : Option ℕ) (run : List (ℕ × ℕ)) → IsOver e last → IsNextRun e last run → ⊥
 
-pub same_all : {W : Type 0} (chars : W → ℕ → Bool) → OneNext → (left : MatchesLeft W) (one other : List MatchWith) → AreAllWith chars left one
-    → AreAllWith chars left other → one ≡ other
+pub same_all : {W : Type 0} (chars : W → ℕ → Bool) → OneNext → (left : MatchesLeft W) (one other : List MatchWithCaptures) → AreAllWithCaptures chars left one
+    → AreAllWithCaptures chars left other → one ≡ other
 same_all chars laws left [] [] a b = refl
 same_all chars laws left [] (n ∷ others) over b = absurd (laws.over (search_in chars left.program left.input) left.last b.0.run over b.0.is_next)
 same_all chars laws left (m ∷ rest) [] a over = absurd (laws.over (search_in chars left.program left.input) left.last a.0.run over a.0.is_next)
@@ -78,7 +78,7 @@ same_all chars laws left (m ∷ rest) (n ∷ others) a b =
     let head : m ≡ n = ap (λ (f : Matched). record { found = f; captures = m.captures }) found
     ∙ ap (λ (c : Captured). record { found = n.found; captures = c }) same.1 in
     let tail : rest ≡ others = same_all chars laws (after left m.found) rest others a.2
-    (subst (λ (f : Matched). AreAllWith chars (after left f) others) (sym found) b.2) in
+    (subst (λ (f : Matched). AreAllWithCaptures chars (after left f) others) (sym found) b.2) in
     cc
 
 pub same_text : {W : Type 0} (chars : W → ℕ → Bool) → OneNext → (left : MatchesLeft W) (template one other : List ℕ)
@@ -86,7 +86,7 @@ pub same_text : {W : Type 0} (chars : W → ℕ → Bool) → OneNext → (left 
     → IsReplaced chars template left other → one ≡ other
 same_text chars laws left template one other a b =
     let all = same_all chars laws left a.0 b.0 a.1 b.1 in
-    a.2 ∙ (ap (λ (x : List MatchWith). with_matches_filled left.input.haystack template left.input.span.start x) all ∙ sym b.2)
+    a.2 ∙ (ap (λ (x : List MatchWithCaptures). with_matches_filled left.input.haystack template left.input.span.start x) all ∙ sym b.2)
 
 -- the text so far: with as many of the matches that are left replaced after it as there may yet be, the first ones of all are replaced
 pub record IsBegunUpTo {W : Type 0} (chars : W → ℕ → Bool) (template : List ℕ) (most : ℕ) (first : MatchesLeft W) (more : ℕ) (now : MatchesLeft W)
@@ -130,8 +130,8 @@ pub up_to_all : {W : Type 0}
 up_to_all chars template most first zero now out begun at = begun.goes_on (drop now.input.span.start now.input.haystack) ([], refl, refl)
 up_to_all chars template most first (suc more) now out begun at = absurd (omega (arith, at))
 
-pub same_first : {W : Type 0} (chars : W → ℕ → Bool) → OneNext → (most : ℕ) (left : MatchesLeft W) (one other : List MatchWith)
-    → AreFirstWith chars most left one → AreFirstWith chars most left other → one ≡ other
+pub same_first : {W : Type 0} (chars : W → ℕ → Bool) → OneNext → (most : ℕ) (left : MatchesLeft W) (one other : List MatchWithCaptures)
+    → AreFirstWithCaptures chars most left one → AreFirstWithCaptures chars most left other → one ≡ other
 same_first chars laws zero left one other a b = a ∙ sym b
 same_first chars laws (suc most) left [] [] a b = refl
 same_first chars laws (suc most) left [] (n ∷ others) over b =
@@ -145,11 +145,11 @@ same_first chars laws (suc most) left (m ∷ rest) (n ∷ others) a b =
     let head : m ≡ n = ap (λ (f : Matched). record { found = f; captures = m.captures }) found
     ∙ ap (λ (c : Captured). record { found = n.found; captures = c }) same.1 in
     let tail : rest ≡ others = same_first chars laws most (after left m.found) rest others a.2
-    (subst (λ (f : Matched). AreFirstWith chars most (after left f) others) (sym found) b.2) in
+    (subst (λ (f : Matched). AreFirstWithCaptures chars most (after left f) others) (sym found) b.2) in
     cc
 
 pub same_first_text : {W : Type 0} (chars : W → ℕ → Bool) → OneNext → (most : ℕ) (left : MatchesLeft W) (template one other : List ℕ)
     → IsReplacedUpTo chars template most left one → IsReplacedUpTo chars template most left other → one ≡ other
 same_first_text chars laws most left template one other a b =
     let first = same_first chars laws most left a.0 b.0 a.1 b.1 in
-    a.2 ∙ (ap (λ (x : List MatchWith). with_matches_filled left.input.haystack template left.input.span.start x) first ∙ sym b.2)
+    a.2 ∙ (ap (λ (x : List MatchWithCaptures). with_matches_filled left.input.haystack template left.input.span.start x) first ∙ sym b.2)

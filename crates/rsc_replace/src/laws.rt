@@ -5,7 +5,7 @@ ghost use Rattle.rsc_captures.specs.Captured.{Captured};
 ghost use Rattle.rsc_captures.specs.Groups.{Groups};
 ghost use Rattle.rsc_engine.specs.NextMatches.{MatchesLeft};
 ghost use Rattle.rsc_engine.specs.Patterns.{Pattern, Subject};
-ghost use Rattle.rsc_replace.specs.Replacements.{AreAllWith, AreFirstWith, IsReplaced, IsReplacedUpTo, MatchWith};
+ghost use Rattle.rsc_replace.specs.Replacements.{AreAllWithCaptures, AreFirstWithCaptures, IsReplaced, IsReplacedUpTo, MatchWithCaptures};
 ghost use Rattle.rsc_replace.specs.Templates.{filled};
 ghost use Rattle.rsc_replace.specs.PartReplacements.{AreAllWays, IsPartReplaced, Way};
 
@@ -20,11 +20,12 @@ pub fn a_template_without_dollars_is_itself()
 
 /// There is at most one list of all matches that are left with their captures, and so one text in which they are replaced; and one list of as many first ones.
 pub fn at_most_one_replaced_text<W: WordClass>()
-    ensures all { (left : MatchesLeft W) (one other : List MatchWith) → AreAllWith W.word_chars left one → AreAllWith W.word_chars left other → one ≡ other }
+    ensures all { (left : MatchesLeft W) (one other : List MatchWithCaptures) →
+        AreAllWithCaptures W.word_chars left one → AreAllWithCaptures W.word_chars left other → one ≡ other }
     ensures replaced { (left : MatchesLeft W) (template one other : List ℕ) → IsReplaced W.word_chars template left one →
         IsReplaced W.word_chars template left other → one ≡ other }
-    ensures first { (most : ℕ) (left : MatchesLeft W) (one other : List MatchWith) → AreFirstWith W.word_chars most left one →
-        AreFirstWith W.word_chars most left other → one ≡ other }
+    ensures first { (most : ℕ) (left : MatchesLeft W) (one other : List MatchWithCaptures) → AreFirstWithCaptures W.word_chars most left one →
+        AreFirstWithCaptures W.word_chars most left other → one ≡ other }
     ensures up_to { (most : ℕ) (left : MatchesLeft W) (template one other : List ℕ) → IsReplacedUpTo W.word_chars template most left one →
         IsReplacedUpTo W.word_chars template most left other → one ≡ other }
 {

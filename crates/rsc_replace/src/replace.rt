@@ -2,8 +2,8 @@
 ghost use Rattle.std.specs.Prelude.{◌≡◌, ◌∷◌, [], IsTrue, IfOk, IfErr, OnOk, Err, None, false};
 ghost use Rattle.rsc_search.specs.Inputs.{whole};
 ghost use Rattle.rsc_engine.specs.declared.error.Error.TheVariants.{OutOfMemory, TooLarge};
-ghost use Rattle.rsc_engine.specs.Parts.{pattern_of, groups_of_pattern};
-ghost use Rattle.rsc_engine.specs.Refusals.{IsErrorOf, RepeatsName, are_too_large};
+ghost use Rattle.rsc_engine.specs.Parts.{pattern_of, groups_as_pattern};
+ghost use Rattle.rsc_engine.specs.Refusals.{IsBuildError, RepeatsName, are_too_large};
 ghost use Rattle.rsc_engine.specs.Sizes.{most_states};
 ghost use Rattle.rsc_replace.specs.PartReplacements.{IsPartReplaced, subject_of_text};
 ghost use Rattle.rsc_replace.specs.Replacements.{IsReplaced};
@@ -94,11 +94,11 @@ pub fn replace_part<W: WordClass + AsciiCompatible>(
     text: &[u8],
     template: &[u8],
 ) -> Result<Vec<u8>, Error>
-    ensures replaced { IfOk result (λ out. IsPartReplaced (subject_of_text text.now (W.word_chars word_class))
-        (groups_of_pattern part.entry) (pattern_of part.entry) template.now out.items) }
-    ensures large { IsTrue (are_too_large most_states (pattern_of part.entry ∷ []) (groups_of_pattern part.entry ∷ [])) → result ≡ Err TooLarge }
-    ensures names_differ { OnOk result (¬ (RepeatsName (groups_of_pattern part.entry ∷ []))) }
-    ensures refused { IfErr result (IsErrorOf most_states (pattern_of part.entry ∷ []) (groups_of_pattern part.entry ∷ [])) }
+    ensures replaced { IfOk result (λ out. IsPartReplaced (subject_of_text (W.word_chars word_class) text.now)
+        (groups_as_pattern part.entry) (pattern_of part.entry) template.now out.items) }
+    ensures too_large { IsTrue (are_too_large most_states (pattern_of part.entry ∷ []) (groups_as_pattern part.entry ∷ [])) → result ≡ Err TooLarge }
+    ensures names_differ { OnOk result (¬ (RepeatsName (groups_as_pattern part.entry ∷ []))) }
+    ensures refused { IfErr result (IsBuildError most_states (pattern_of part.entry ∷ []) (groups_as_pattern part.entry ∷ [])) }
 {
     laws::one_pattern::a_match_of_one_pattern::<W>();
     laws::the_first_group_is_the_match::<W>();

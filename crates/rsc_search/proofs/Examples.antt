@@ -7,7 +7,7 @@ use Rattle.rsc_search.specs.declared.error.MatchErrorKind.TheVariants.{Quit, Uns
 use Rattle.rsc_search.specs.Inputs.{span_between}
 use Rattle.rsc_search.specs.PatternSets.{no_patterns, with_member, same_patterns}
 use Rattle.rsc_search.specs.Spans.{cut, cut_text, is_char_boundary}
-use Rattle.rsc_search.specs.Texts.{error_text, refused_insertion_text}
+use Rattle.rsc_search.specs.Texts.{match_error_text, refused_insertion_text}
 
 zero_and_two : with_member (with_member (no_patterns 3) 2) 0 ≡ record { capacity = 3; members = 0 ∷ 2 ∷ [] }
 zero_and_two = refl
@@ -55,15 +55,15 @@ char_boundary_inside = refl
 char_boundary_at_the_end : is_char_boundary (0xF0 ∷ 0x9D ∷ 0x9B ∷ 0x83 ∷ []) 4 ≡ true
 char_boundary_at_the_end = refl
 
-quit_text : error_text (Quit 0xFF 3) ≡ codes "quit search after observing byte \\xFF at offset 3"
+quit_text : match_error_text (Quit 0xFF 3) ≡ codes "quit search after observing byte \\xFF at offset 3"
 unfolding digits
 quit_text = refl
 
-quit_at_a_space : error_text (Quit 0x20 0) ≡ codes "quit search after observing byte ' ' at offset 0"
+quit_at_a_space : match_error_text (Quit 0x20 0) ≡ codes "quit search after observing byte ' ' at offset 0"
 unfolding digits
 quit_at_a_space = refl
 
-unsupported_pattern : error_text (UnsupportedAnchored (Pattern 4)) ≡ codes "anchored searches for a specific pattern (4) are not supported or enabled"
+unsupported_pattern : match_error_text (UnsupportedAnchored (Pattern 4)) ≡ codes "anchored searches for a specific pattern (4) are not supported or enabled"
 unfolding digits
 unsupported_pattern = refl
 

@@ -15,7 +15,7 @@ use Rattle.std.proofs.lemmas.Slice.Eq.{bytes_eq-Decides}
 use Rattle.std.specs.Cmp.{both_ways}
 use mathlib.Core.Bool.{true≢false}
 use Rattle.rsc_search.specs.PatternSetsLaws.{same_patterns_equiv}
-use Rattle.rsc_search.specs.PatternSets.{Patterns, IsSet, has_member, numbers_below, with_member, same_patterns}
+use Rattle.rsc_search.specs.PatternSets.{PatternSetParts, IsPatternSet, has_member, numbers_below, with_member, same_patterns}
 use Rattle.std.specs.Int.{div_ceil, trailing_zeros}
 use Rattle.rsc_primitives.specs.Indices.{max_index}
 use Rattle.rsc_search.specs.PatternSetLayout.{patterns_held, IsPacked, left_between, IsBetween}
@@ -89,7 +89,7 @@ module _ (capacity : ℕ) (blocks : List ℕ) (spare_clear : (p : ℕ) → capac
         ≡ numbers_below capacity (λ q. eqb q p || has_member (patterns_held capacity blocks).members q) =
         range_filter_same (is_set others) (λ q. eqb q p || has_member (patterns_held capacity blocks).members q) 0 capacity
         (λ q from below. at q ∙ rw (has_member-set q) refl) in
-        ap (λ (ms : List ℕ). let s : Patterns = record { capacity = capacity; members = ms } in s) members
+        ap (λ (ms : List ℕ). let s : PatternSetParts = record { capacity = capacity; members = ms } in s) members
 
     -- the bits at and above the capacity stay clear
     pub spare_stays : p < capacity → (q : ℕ) → capacity ≤ q → is_set others q ≡ false
@@ -103,7 +103,7 @@ module _ (capacity : ℕ) (blocks : List ℕ) (spare_clear : (p : ℕ) → capac
         (λ q ne. sym (at q ∙ rw (ne_eqb q p ne) refl))
 
 -- a number below the capacity is a member after an insertion exactly if it was one or is the new one
-pub member_if_inserted : (s : Patterns) (p q : ℕ) → q < s.capacity → has_member (with_member s p).members q ≡ (eqb q p || has_member s.members q)
+pub member_if_inserted : (s : PatternSetParts) (p q : ℕ) → q < s.capacity → has_member (with_member s p).members q ≡ (eqb q p || has_member s.members q)
 member_if_inserted s p q lt = member_in (λ r. eqb r p || has_member s.members r) 0 s.capacity q (omega arith) (omega arith)
 
 -- sets of the same capacity are equal exactly if the same bits are set
@@ -142,7 +142,7 @@ members_below : (t : ℕ → Bool) (n : ℕ) → All (λ p. p < n) (numbers_belo
 members_below t n = All-filter t (λ p. p < n) (range_with_len 0 n) (λ k d within. let at = number_at n k d within in omega (arith, at.0, at.1))
 
 -- the members ascend, and lie below the capacity
-pub is_set_below : (capacity : ℕ) (blocks : List ℕ) → IsSet (patterns_held capacity blocks)
+pub is_set_below : (capacity : ℕ) (blocks : List ℕ) → IsPatternSet (patterns_held capacity blocks)
 is_set_below capacity blocks = record {
   ascending = members_ascend (is_set blocks) capacity;
   below = members_below (is_set blocks) capacity;

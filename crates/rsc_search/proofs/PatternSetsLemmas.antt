@@ -9,7 +9,7 @@ use Rattle.std.proofs.lemmas.List.FromFn.{length-range_with_len}
 use Rattle.std.proofs.lemmas.List.Sums.{count_by-le-length, length-filter}
 use Rattle.std.specs.List.{filter, range_with_len, AllPairs, Contains}
 use Rattle.rsc_primitives.specs.RangesLaws.{range_append, range_filter_none, range_filter_same}
-use Rattle.rsc_search.specs.PatternSets.{has_member, Patterns, IsSet, numbers_below, with_member}
+use Rattle.rsc_search.specs.PatternSets.{has_member, PatternSetParts, IsPatternSet, numbers_below, with_member}
 use Rattle.std.proofs.lemmas.List.Folds.{list_any_at}
 use Rattle.std.proofs.lemmas.List.Kept.{AllPairs-from_increasing}
 use Rattle.std.specs.List.Sorted.{IsStrictlyIncreasing}
@@ -151,7 +151,7 @@ filtered (m ∷ ms) a (suc n) pairs low high =
     ]
 
 -- an insertion makes at most one member more
-pub one_more : (s : Patterns) (p : ℕ) → IsSet s → p < s.capacity
+pub one_more : (s : PatternSetParts) (p : ℕ) → IsPatternSet s → p < s.capacity
     → length (with_member s p).members ≡ cond (has_member s.members p) (length s.members) (length s.members + 1)
 one_more s p is_set below =
     let within : All (λ q. q < 0 + s.capacity) s.members = λ k d lt. omega (arith, is_set.below k d lt) in

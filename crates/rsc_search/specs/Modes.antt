@@ -4,7 +4,7 @@ use Rattle.rsc_search.specs.declared.anchored.Anchored.{Anchored}
 use Rattle.rsc_search.specs.declared.anchored.Anchored.TheVariants.{No, Yes, Pattern}
 
 -- the one pattern that may match
-abbrev pub pattern_of_mode : Anchored → Option ℕ
-pattern_of_mode No = None
-pattern_of_mode Yes = None
-pattern_of_mode (Pattern p) = Some p
+abbrev pub only_pattern : Anchored → Option ℕ
+only_pattern No = None
+only_pattern Yes = None
+only_pattern (Pattern p) = Some p

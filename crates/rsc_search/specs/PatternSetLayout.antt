@@ -2,11 +2,11 @@
 use Rattle.std.specs.Prelude.{◌≡◌, ◌+◌, ◌≤◌, ℕ, true, false, List, length}
 use Rattle.std.specs.Int.{div_ceil}
 use Rattle.rsc_primitives.specs.Indices.{IsIndex, max_index}
-use Rattle.rsc_search.specs.PatternSets.{Patterns, numbers_below}
+use Rattle.rsc_search.specs.PatternSets.{PatternSetParts, numbers_below}
 use Rattle.rsc_search.specs.BlockLayout.{is_set, set_between, rest_start, rest_end, IsRestFrom, IsRestTo}
 
 -- the set of that capacity whose members are the numbers with a set bit
-abbrev pub patterns_held : ℕ → List ℕ → Patterns
+abbrev pub patterns_held : ℕ → List ℕ → PatternSetParts
 patterns_held capacity blocks = record { capacity = capacity; members = numbers_below capacity (is_set blocks) }
 
 -- a block for each 64 numbers begun, no bit set at or above the capacity, and the count that of the members

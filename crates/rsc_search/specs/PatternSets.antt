@@ -5,12 +5,12 @@ use Rattle.std.specs.List.Sorted.{IsStrictlyIncreasing}
 use Rattle.std.specs.Str.{bytes_eq}
 
 -- what a contract sees of a pattern set
-pub record Patterns : Type 0 where
+pub record PatternSetParts : Type 0 where
   pub capacity : ℕ
   pub members : List ℕ
 
 -- what holds for each set: its members ascend, each is below the capacity, and so they are at most as many
-pub record IsSet (s : Patterns) : Type 0 where
+pub record IsPatternSet (s : PatternSetParts) : Type 0 where
   pub ascending : IsStrictlyIncreasing s.members
   pub below : All (λ p. p < s.capacity) s.members
   pub most : length s.members ≤ s.capacity
@@ -24,15 +24,15 @@ abbrev pub numbers_below : ℕ → (ℕ → Bool) → List ℕ
 numbers_below n test = filter test (range_with_len 0 n)
 
 -- the set with no members
-abbrev pub no_patterns : ℕ → Patterns
+abbrev pub no_patterns : ℕ → PatternSetParts
 no_patterns n = record { capacity = n; members = [] }
 
 -- the set with p as a member besides its own: the numbers below the capacity that are p or a member
-abbrev pub with_member : Patterns → ℕ → Patterns
+abbrev pub with_member : PatternSetParts → ℕ → PatternSetParts
 with_member s p = record { capacity = s.capacity; members = numbers_below s.capacity (λ q. q == p || has_member s.members q) }
 
 -- two sets have one capacity and the same members
-abbrev pub same_patterns : Patterns → Patterns → Bool
+abbrev pub same_patterns : PatternSetParts → PatternSetParts → Bool
 same_patterns s t = s.capacity == t.capacity && bytes_eq s.members t.members
 
 -- why an insertion is refused: the pattern handed in, and the set's capacity, which it isn't below

@@ -8,20 +8,20 @@ use Rattle.rsc_search.specs.declared.error.MatchErrorKind.{MatchErrorKind}
 use Rattle.rsc_search.specs.declared.error.MatchErrorKind.TheVariants.{Quit, GaveUp, HaystackTooLong, UnsupportedAnchored}
 use Rattle.rsc_search.specs.PatternSets.{RefusedInsertion}
 
--- of a mode that isn't supported
+-- what a refused mode displays
 abbrev pub unsupported_text : Anchored → List ℕ
 unsupported_text Yes = codes "anchored searches are not supported or enabled"
 unsupported_text No = codes "unanchored searches are not supported or enabled"
 unsupported_text (Pattern p) = codes "anchored searches for a specific pattern (" ++ (decimal p ++ codes ") are not supported or enabled")
 
--- of a search that gives no answer
-abbrev pub error_text : MatchErrorKind → List ℕ
-error_text (Quit byte offset) = codes "quit search after observing byte " ++ (byte_text byte ++ (codes " at offset " ++ decimal offset))
-error_text (GaveUp offset) = codes "gave up searching at offset " ++ decimal offset
-error_text (HaystackTooLong len) = codes "haystack of length " ++ (decimal len ++ codes " is too long")
-error_text (UnsupportedAnchored mode) = unsupported_text mode
+-- what a `MatchError` displays
+abbrev pub match_error_text : MatchErrorKind → List ℕ
+match_error_text (Quit byte offset) = codes "quit search after observing byte " ++ (byte_text byte ++ (codes " at offset " ++ decimal offset))
+match_error_text (GaveUp offset) = codes "gave up searching at offset " ++ decimal offset
+match_error_text (HaystackTooLong len) = codes "haystack of length " ++ (decimal len ++ codes " is too long")
+match_error_text (UnsupportedAnchored mode) = unsupported_text mode
 
--- of a refused insertion
+-- what a `PatternSetInsertError` displays
 abbrev pub refused_insertion_text : RefusedInsertion → List ℕ
 refused_insertion_text e =
     codes "failed to insert pattern ID " ++ (decimal e.attempted ++ (codes " into pattern set with insufficient capacity of " ++ decimal e.capacity))

@@ -2,7 +2,7 @@
 ghost use Rattle.std.specs.Prelude.{◌≡◌, ◌↔◌, IsTrue};
 ghost use Rattle.rsc_search.specs.declared.anchored.Anchored.TheVariants.{No};
 ghost use Rattle.rsc_search.specs.declared.anchored.MatchKind.TheVariants.{All, LeftmostFirst};
-ghost use Rattle.rsc_search.specs.Modes.{pattern_of_mode};
+ghost use Rattle.rsc_search.specs.Modes.{only_pattern};
 
 use rsc_primitives::PatternID;
 
@@ -39,7 +39,7 @@ impl Anchored {
     /// The one pattern that may match, or `None` where each may.
     #[inline]
     pub fn pattern(&self) -> Option<PatternID>
-        ensures { result ≡ pattern_of_mode self.now }
+        ensures { result ≡ only_pattern self.now }
     {
         match *self {
             Anchored::Pattern(pid) => Some(pid),

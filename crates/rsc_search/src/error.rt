@@ -112,9 +112,9 @@ impl MatchError {
 
 impl fmt::Display for MatchError {
     ghost use Rattle.std.specs.Prelude.{Some};
-    ghost use Rattle.rsc_search.specs.Texts.{error_text};
+    ghost use Rattle.rsc_search.specs.Texts.{match_error_text};
 
-    ghost output = { λ kind. Some (error_text kind) };
+    ghost output = { λ kind. Some (match_error_text kind) };
 
     fn fmt<W: fmt::Write>(&self, f: &mut fmt::Formatter<W>) -> fmt::Result {
         match self.kind {

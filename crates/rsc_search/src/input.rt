@@ -264,7 +264,7 @@ impl<'h> Input<'h> {
     #[inline]
     pub fn is_char_boundary(&self, at: usize) -> bool
         ensures value { IsTrue result ↔ IsCharBoundary self.now.haystack at }
-        ensures valid { (chars : List ℕ) → EncodesAll self.now.haystack chars →
+        ensures text { (chars : List ℕ) → EncodesAll self.now.haystack chars →
             IsTrue result ↔ (((c : ℕ) × BeginsAt self.now.haystack at c) ⊎ (at ≡ length self.now.haystack)) }
     {
         utf8::is_boundary(self.haystack, at)

@@ -6,7 +6,7 @@ ghost use Rattle.std.specs.List.Sorted.{IsStrictlyIncreasing};
 ghost use Rattle.rsc_primitives.specs.Decoding.{IsCharBoundary};
 ghost use Rattle.rsc_search.specs.Inputs.{InputParts};
 ghost use Rattle.rsc_search.specs.Matches.{HalfMatched, Matched};
-ghost use Rattle.rsc_search.specs.PatternSets.{Patterns, RefusedInsertion, IsSet, has_member, with_member};
+ghost use Rattle.rsc_search.specs.PatternSets.{PatternSetParts, RefusedInsertion, IsPatternSet, has_member, with_member};
 ghost use Rattle.rsc_search.specs.Spans.{is_char_boundary};
 ghost use Rattle.rsc_search.specs.declared.anchored.Anchored as modes;
 ghost use Rattle.rsc_search.specs.declared.anchored.MatchKind as kinds;
@@ -24,9 +24,9 @@ use std::hash::Hash;
 /// An insertion makes its number a member, and no other number below the capacity: where it wasn't one, there is one member more.
 #[tactic(auto, using(crate::proofs::PatternSetsLemmas::one_more, crate::proofs::PatternSetLayoutLemmas::member_if_inserted))]
 pub fn insertion_adds_one_member()
-    ensures count { (s : Patterns) (p : ℕ) → IsSet s → p < s.capacity →
+    ensures count { (s : PatternSetParts) (p : ℕ) → IsPatternSet s → p < s.capacity →
         length (with_member s p).members ≡ (if has_member s.members p then length s.members else length s.members + 1) }
-    ensures members { (s : Patterns) (p q : ℕ) → q < s.capacity →
+    ensures members { (s : PatternSetParts) (p q : ℕ) → q < s.capacity →
         has_member (with_member s p).members q ≡ (q == p || has_member s.members q) }
 {}
 
@@ -38,7 +38,7 @@ pub fn char_boundary_is_tested()
 /// The test of membership is true exactly for the elements that std's `Contains` finds. The first member is the least.
 #[tactic(auto, using(crate::proofs::PatternSetsLemmas::is_contained, crate::proofs::PatternSetsLemmas::first_is_least))]
 pub fn members_are_contained()
-    ensures contained { (members : List ℕ) (p : ℕ) → (has_member members p ≡ true) ↔ Contains members p }
+    ensures exactly { (members : List ℕ) (p : ℕ) → (has_member members p ≡ true) ↔ Contains members p }
     ensures least { (members rest : List ℕ) (first p : ℕ) → members ≡ first ∷ rest → IsStrictlyIncreasing members →
         has_member members p ≡ true → first ≤ p }
 {}

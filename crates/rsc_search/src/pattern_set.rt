@@ -4,7 +4,7 @@
 //! them at once, where a set is cleared, compared, or gone through.
 ghost use Rattle.std.specs.Prelude.{◌≡◌, ℕ, ◌-◌, ◌<◌, ◌≤◌, ◌↔◌, ◌+◌, if◌then◌else◌, true, false, not, All, length, IsTrue, IsOk, IfOk, IfErr, IfSome, OnOk, OnErr, Some};
 ghost use Rattle.std.specs.List.Sorted.{IsStrictlyIncreasing};
-ghost use Rattle.rsc_search.specs.PatternSets.{Patterns, IsSet, no_patterns, has_member, with_member};
+ghost use Rattle.rsc_search.specs.PatternSets.{PatternSetParts, IsPatternSet, no_patterns, has_member, with_member};
 
 mod error;
 mod iter;
@@ -38,10 +38,10 @@ pub struct PatternSet<A: Allocator = Global> {
 }
 
 impl<A: Allocator> Model for PatternSet<A> {
-    ghost use Rattle.rsc_search.specs.PatternSets.{Patterns};
+    ghost use Rattle.rsc_search.specs.PatternSets.{PatternSetParts};
     ghost use Rattle.rsc_search.specs.PatternSetLayout.{patterns_held, IsPacked};
 
-    ghost Value = { Patterns };
+    ghost Value = { PatternSetParts };
 
     ghost view = { λ s. patterns_held s.capacity s.blocks.items };
 
@@ -78,7 +78,7 @@ impl<A: Allocator> PatternSet<A> {
     pub fn contains(&self, pid: PatternID) -> bool
         ensures value { result ≡ has_member self.now.members pid }
         ensures within { IsTrue result → pid < self.now.capacity }
-        ensures lawful { IsSet self.now }
+        ensures lawful { IsPatternSet self.now }
     {
         let p = pid.as_usize();
         is_bit_set(block_at(self.blocks.as_slice(), p / BITS), p % BITS)
@@ -89,7 +89,7 @@ impl<A: Allocator> PatternSet<A> {
     pub fn insert(&mut self, pid: PatternID) -> bool
         requires { pid < self.old.capacity }
         ensures value { self.new ≡ with_member self.old pid }
-        ensures new { result ≡ not (has_member self.old.members pid) }
+        ensures added { result ≡ not (has_member self.old.members pid) }
         ensures count { length self.new.members ≡ (if result then length self.old.members + 1 else length self.old.members) }
         ensures within { length self.new.members ≤ self.new.capacity }
     {
@@ -113,7 +113,7 @@ impl<A: Allocator> PatternSet<A> {
     pub fn try_insert(&mut self, pid: PatternID) -> Result<bool, PatternSetInsertError>
         ensures accepted { IsOk result ↔ (pid < self.old.capacity) }
         ensures value { OnOk result (self.new ≡ with_member self.old pid) }
-        ensures new { IfOk result (λ new. new ≡ not (has_member self.old.members pid)) }
+        ensures added { IfOk result (λ new. new ≡ not (has_member self.old.members pid)) }
         ensures count { IfOk result (λ new. length self.new.members ≡ (if new then length self.old.members + 1 else length self.old.members)) }
         ensures within { length self.new.members ≤ self.new.capacity }
         ensures kept { OnErr result (self.new ≡ self.old) }
@@ -135,7 +135,7 @@ impl<A: Allocator> PatternSet<A> {
     #[tactic(auto, using(crate::proofs::PatternSetLayoutLemmas::is_set_below))]
     pub fn is_empty(&self) -> bool
         ensures value { IsTrue result ↔ (length self.now.members ≡ 0) }
-        ensures lawful { IsSet self.now }
+        ensures lawful { IsPatternSet self.now }
     {
         self.count == 0
     }
@@ -145,7 +145,7 @@ impl<A: Allocator> PatternSet<A> {
     #[tactic(auto, using(crate::proofs::PatternSetLayoutLemmas::is_set_below))]
     pub fn is_full(&self) -> bool
         ensures value { IsTrue result ↔ (length self.now.members ≡ self.now.capacity) }
-        ensures lawful { IsSet self.now }
+        ensures lawful { IsPatternSet self.now }
     {
         self.count == self.capacity
     }
@@ -155,7 +155,7 @@ impl<A: Allocator> PatternSet<A> {
     pub fn len(&self) -> usize
         ensures value { result ≡ length self.now.members }
         ensures within { result ≤ self.now.capacity }
-        ensures lawful { IsSet self.now }
+        ensures lawful { IsPatternSet self.now }
     {
         self.count
     }
@@ -166,7 +166,7 @@ impl<A: Allocator> PatternSet<A> {
     pub fn capacity(&self) -> usize
         ensures value { result ≡ self.now.capacity }
         ensures most { result ≤ PatternID.LIMIT }
-        ensures lawful { IsSet self.now }
+        ensures lawful { IsPatternSet self.now }
     {
         self.capacity
     }
@@ -178,7 +178,7 @@ impl<A: Allocator> PatternSet<A> {
         ensures ascending { IsStrictlyIncreasing result }
         ensures within { All (λ p. p < self.now.capacity) result }
         ensures contained { All (λ p. has_member self.now.members p ≡ true) result }
-        ensures lawful { IsSet self.now }
+        ensures lawful { IsPatternSet self.now }
     {
         let blocks = self.blocks.as_slice();
         let last = blocks.len().saturating_sub(1);

@@ -85,8 +85,8 @@ impl Span {
     /// The span with both ends greater by a number of bytes. Both have to fit a `usize`.
     #[inline]
     pub fn offset(&self, offset: usize) -> Span
-        requires start { self.now.start + offset < 2 ^ 64 }
-        requires end { self.now.end + offset < 2 ^ 64 }
+        requires start_most { self.now.start + offset < 2 ^ 64 }
+        requires end_most { self.now.end + offset < 2 ^ 64 }
         ensures { result ≡ record { start = self.now.start + offset; end = self.now.end + offset } }
     {
         Span {

@@ -3,7 +3,7 @@ use Rattle.std.proofs.Common.{◌≡◌, ◌≢◌, ◌↔◌, ◌<◌, ◌≤�
 use Rattle.std.proofs.Math.Bool.{beq}
 use Rattle.std.proofs.lemmas.Bool.{cases_lt, cases_Bool}
 use Rattle.std.proofs.lemmas.List.{get_or_default}
-use Rattle.rsc_alphabet.specs.Partitions.{Together, class_map}
+use Rattle.rsc_alphabet.specs.Partitions.{AreTogether, class_map}
 use Rattle.rsc_look.specs.declared.assertion.Look.{Look}
 use Rattle.rsc_look.specs.Keeping.{IsNeeded, Tells}
 
@@ -40,7 +40,7 @@ not_needed b n looks t chars all none = λ needed.
 
 -- between two classes of the map of a partition there is a boundary
 pub boundary_between : (m : List ℕ) (p : ℕ → Bool) (b : ℕ)
-    → ((p : ℕ → Bool) (b c : ℕ) → b < 256 → c < 256 → (slice_index (class_map p) b ≡ slice_index (class_map p) c) ↔ Together p b c)
+    → ((p : ℕ → Bool) (b c : ℕ) → b < 256 → c < 256 → (slice_index (class_map p) b ≡ slice_index (class_map p) c) ↔ AreTogether p b c)
     → b < 255 → m ≡ class_map p → slice_index m b ≢ slice_index m (b + 1) → p b ≡ true
 boundary_between m p b law small is differs =
     ⊎_elim (λ (e : p b ≡ true). e)
@@ -48,7 +48,7 @@ boundary_between m p b law small is differs =
     ((law p b (b + 1) (omega (arith, small)) (omega (arith, small))).1 (alone e)))))
     (cases_Bool (p b))
   where
-    alone : p b ≡ false → Together p b (b + 1)
+    alone : p b ≡ false → AreTogether p b (b + 1)
     alone e k low high there =
         let same : k ≡ b = omega (arith, low, high) in
         true≢false (sym there ∙ ap p same ∙ e)

@@ -5,8 +5,8 @@ use Rattle.std.proofs.lemmas.Bool.{or_cases, or_left, or_right}
 use Rattle.std.proofs.lemmas.List.Elements.{Contains-append_left, Contains-push, Contains-push_cases}
 use Rattle.rsc_alphabet.specs.Partitions.{class_map}
 use Rattle.rsc_look.specs.declared.assertion.Look.{Look}
-use Rattle.rsc_look.specs.Boundaries.{boundaries_of}
-use Rattle.rsc_look.specs.Keeping.{IsCoarsestMap, IsExactFor, IsNeeded, Keeps}
+use Rattle.rsc_look.specs.Boundaries.{boundaries_of_look}
+use Rattle.rsc_look.specs.Keeping.{IsCoarsestMap, HasNeededBoundaries, IsNeeded, Keeps}
 use Rattle.rsc_look.specs.KeepingLaws.{same_as_only}
 use Rattle.rsc_show.specs.Ranges.{HasBoundary, IsCoarsestParting, BoundsRange, IsOfLook, PartsRanges}
 
@@ -49,7 +49,7 @@ needed_in b looks l t chars listed needed = record {
 
 -- a partition that keeps and parts, and has no boundary but those of assertions and boundaries, is the coarsest one
 pub coarsest_parting : (p : ℕ → Bool) (ranges : List (ℕ × ℕ)) (looks : List Look) (t : ℕ) (chars : ℕ → Bool)
-    → ((l : Look) → IsExactFor (sets.contains (boundaries_of l t)) l t chars) → Keeps p looks t chars → PartsRanges p ranges
+    → ((l : Look) → HasNeededBoundaries (sets.contains (boundaries_of_look l t)) l t chars) → Keeps p looks t chars → PartsRanges p ranges
     → ((b : ℕ) → b < 255 → p b ≡ true → HasBoundary b ranges ⊎ IsOfLook b looks t) → IsCoarsestParting (class_map p) ranges looks t chars
 coarsest_parting p ranges looks t chars exact keeps parts only = record {
   boundaries = p;
@@ -84,7 +84,7 @@ without_ranges m looks t chars c = record {
 
 -- the same without ranges
 pub coarsest_map : (p : ℕ → Bool) (ranges : List (ℕ × ℕ)) (looks : List Look) (t : ℕ) (chars : ℕ → Bool)
-    → ((l : Look) → IsExactFor (sets.contains (boundaries_of l t)) l t chars) → Keeps p looks t chars → PartsRanges p ranges
+    → ((l : Look) → HasNeededBoundaries (sets.contains (boundaries_of_look l t)) l t chars) → Keeps p looks t chars → PartsRanges p ranges
     → ((b : ℕ) → b < 255 → p b ≡ true → HasBoundary b ranges ⊎ IsOfLook b looks t) → ranges ≡ [] → IsCoarsestMap (class_map p) looks t chars
 coarsest_map p ranges looks t chars exact keeps parts only none =
     without_ranges (class_map p) looks t chars

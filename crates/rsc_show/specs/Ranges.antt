@@ -4,7 +4,7 @@ use Rattle.std.specs.List.{Contains}
 use Rattle.std.specs.FinSet as sets
 use Rattle.rsc_alphabet.specs.Partitions.{class_map}
 use Rattle.rsc_look.specs.declared.assertion.Look.{Look}
-use Rattle.rsc_look.specs.Boundaries.{boundaries_of}
+use Rattle.rsc_look.specs.Boundaries.{boundaries_of_look}
 use Rattle.rsc_look.specs.Keeping.{IsNeeded, Keeps}
 
 -- the range begins at the byte after b, or ends at b
@@ -22,7 +22,7 @@ pub record HasBoundary (b : ℕ) (ranges : List (ℕ × ℕ)) : Type 0 where
 pub record IsOfLook (b : ℕ) (looks : List Look) (t : ℕ) : Type 0 where
   pub look : Look
   pub listed : Contains looks look
-  pub boundary : sets.contains (boundaries_of look t) b ≡ true
+  pub boundary : sets.contains (boundaries_of_look look t) b ≡ true
 
 -- the partition has a boundary where a listed range that holds a byte begins or ends
 abbrev pub PartsRanges : (ℕ → Bool) → List (ℕ × ℕ) → Type 0

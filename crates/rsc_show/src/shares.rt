@@ -100,7 +100,7 @@ fn share_of_range(
 }
 
 /// How many boundaries the classes of a partition have.
-pub fn boundaries_of(classes: &ByteClasses) -> usize
+pub fn boundaries_of_look(classes: &ByteClasses) -> usize
     ensures { (p : ℕ → Bool) → classes.now ≡ class_map p → result ≡ class_of p 255 }
 {
     usize::from(classes.get(255))

@@ -4,7 +4,7 @@ ghost use Rattle.std.specs.Prelude.{◌<◌};
 use crate::alphabet::{Sizes, classes_of, sizes_of};
 use crate::arguments::Request;
 use crate::shares::{
-    Item, Share, boundaries_beyond, boundaries_of, has_boundary_after, is_beyond, shares_of,
+    Item, Share, boundaries_beyond, boundaries_of_look, has_boundary_after, is_beyond, shares_of,
 };
 use crate::text::Page;
 use rsc_alphabet::ByteClasses;
@@ -40,7 +40,7 @@ pub fn summary(alloc: Global, request: &Request) -> Result<String, AllocError> {
 // The boundaries of an item, how many of them no other item has, and how large a row is without it.
 fn push_share(page: &mut Page, all: &ByteClasses, share: &Share) {
     push_label(page, share.item);
-    let own = boundaries_of(&share.own);
+    let own = boundaries_of_look(&share.own);
     let only = boundaries_beyond(all, &share.others);
     let _ = write!(page, "{own:>12}{only:>14}");
     push_row_size(page, &share.others);
@@ -48,7 +48,7 @@ fn push_share(page: &mut Page, all: &ByteClasses, share: &Share) {
 
 // The boundaries of all items, and how large a row is.
 fn push_all(page: &mut Page, all: &ByteClasses) {
-    let count = boundaries_of(all);
+    let count = boundaries_of_look(all);
     let _ = write!(page, "with all{count:>24}              ");
     push_row_size(page, all);
 }
@@ -78,7 +78,7 @@ fn push_label(page: &mut Page, item: Item) {
 
 // A column for each boundary of all, in tables that are at most 80 columns wide, and what its marks mean.
 fn push_picture(page: &mut Page, all: &ByteClasses, shares: &[Share]) {
-    let count = boundaries_of(all);
+    let count = boundaries_of_look(all);
     for table in 0..count.div_ceil(BOUNDARIES_A_LINE) {
         push_table(page, all, shares, table);
     }

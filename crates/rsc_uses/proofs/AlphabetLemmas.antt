@@ -4,7 +4,7 @@ use Rattle.std.proofs.lemmas.Bool.{cases_eq, cases_lt}
 use Rattle.std.proofs.lemmas.Option.{slice_get_within, get_or_from_slice_get}
 use Rattle.rsc_alphabet.specs.Symbols.{Symbol, byte, number_of}
 use Rattle.rsc_uses.specs.Leads.{lead_of, lead_in}
-use Rattle.rsc_alphabet.specs.Iterators.{class_at, end_of, symbols}
+use Rattle.rsc_alphabet.specs.Iterators.{class_at, end_symbol, symbols}
 
 -- each unit is still to come, or its entry has its value
 pub record Awaits (entry value : Symbol → ℕ) (row : List ℕ) (left all : List Symbol) : Type 0 where
@@ -54,20 +54,20 @@ Contains-from_get xs i u e = (i, slice_get_within xs i u e, get_or_from_slice_ge
 
 -- the units of a class map have all numbers up to that of the end
 pub unit_of_number : (classes : List ℕ) (k : ℕ) → ((c : ℕ) → c ≤ slice_index classes 255 → slice_get (symbols classes) c ≡ Some (byte c))
-    → slice_get (symbols classes) (slice_index classes 255 + 1) ≡ Some (end_of classes)
+    → slice_get (symbols classes) (slice_index classes 255 + 1) ≡ Some (end_symbol classes)
     → k < slice_index classes 255 + 2 → (u : Symbol) × (Contains (symbols classes) u × (number_of u ≡ k))
 unit_of_number classes k entries last small =
     ⊎_elim
     (λ (low : k < slice_index classes 255 + 1). (byte k, (Contains-from_get (symbols classes) k (byte k) (entries k (omega (arith, low))), refl)))
     (λ (high : slice_index classes 255 + 1 ≤ k). (
-      end_of classes,
-      (Contains-from_get (symbols classes) (slice_index classes 255 + 1) (end_of classes) last, omega (arith, small, high)),
+      end_symbol classes,
+      (Contains-from_get (symbols classes) (slice_index classes 255 + 1) (end_symbol classes) last, omega (arith, small, high)),
     ))
     (cases_lt k (slice_index classes 255 + 1))
 
 -- where a unit leads depends on its class alone
 pub one_way : (classes leads : List ℕ) (end : ℕ) (all : List Symbol)
-    → ((u : Symbol) → Contains all u → ((b : ℕ) × ((b < 256) × (u ≡ byte b))) ⊎ (u ≡ end_of classes))
+    → ((u : Symbol) → Contains all u → ((b : ℕ) × ((b < 256) × (u ≡ byte b))) ⊎ (u ≡ end_symbol classes))
     → ((b : ℕ) → b < 256 → slice_index classes b ≤ slice_index classes 255)
     → ((b c : ℕ) → b < 256 → c < 256 → slice_index classes b ≡ slice_index classes c → slice_index leads b ≡ slice_index leads c)
     → (v w : Symbol) → Contains all v → Contains all w → class_at classes v ≡ class_at classes w → lead_of leads end v ≡ lead_of leads end w
@@ -76,12 +76,12 @@ one_way classes leads end all only rises alike v w in_v in_w same =
     (λ (bv : (b : ℕ) × ((b < 256) × (v ≡ byte b))). ⊎_elim
     (λ (bw : (b : ℕ) × ((b < 256) × (w ≡ byte b))).
     rw (bv.1.1, bw.1.1) (alike bv.0 bw.0 bv.1.0 bw.1.0 (sym (ap (class_at classes) bv.1.1) ∙ same ∙ ap (class_at classes) bw.1.1)))
-    (λ (ew : w ≡ end_of classes). absurd (apart bv.0 bv.1.0 (sym (ap (class_at classes) bv.1.1) ∙ same ∙ ap (class_at classes) ew)))
+    (λ (ew : w ≡ end_symbol classes). absurd (apart bv.0 bv.1.0 (sym (ap (class_at classes) bv.1.1) ∙ same ∙ ap (class_at classes) ew)))
     (only w in_w))
-    (λ (ev : v ≡ end_of classes). ⊎_elim
+    (λ (ev : v ≡ end_symbol classes). ⊎_elim
     (λ (bw : (b : ℕ) × ((b < 256) × (w ≡ byte b))). absurd
     (apart bw.0 bw.1.0 (sym (ap (class_at classes) bw.1.1) ∙ sym same ∙ ap (class_at classes) ev)))
-    (λ (ew : w ≡ end_of classes). ap (lead_of leads end) (ev ∙ sym ew))
+    (λ (ew : w ≡ end_symbol classes). ap (lead_of leads end) (ev ∙ sym ew))
     (only w in_w))
     (only v in_v)
   where
@@ -89,12 +89,12 @@ one_way classes leads end all only rises alike v w in_v in_w same =
     apart b l e = let most = rises b l in omega (arith, most, e)
 
 -- a unit's class has an entry in a row of as many entries as there are units
-pub class_within : (classes : List ℕ) (u : Symbol) → ((b : ℕ) × ((b < 256) × (u ≡ byte b))) ⊎ (u ≡ end_of classes)
+pub class_within : (classes : List ℕ) (u : Symbol) → ((b : ℕ) × ((b < 256) × (u ≡ byte b))) ⊎ (u ≡ end_symbol classes)
     → ((b : ℕ) → b < 256 → slice_index classes b ≤ slice_index classes 255) → class_at classes u < slice_index classes 255 + 2
 class_within classes u is rises =
     ⊎_elim
     (λ (b : (b : ℕ) × ((b < 256) × (u ≡ byte b))). let most = rises b.0 b.1.0 in rw (b.1.1) (omega (arith, most)))
-    (λ (e : u ≡ end_of classes). rw e (omega arith))
+    (λ (e : u ≡ end_symbol classes). rw e (omega arith))
     is
 
 -- ---- a row of leads, one byte after the other

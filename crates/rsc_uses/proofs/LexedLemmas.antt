@@ -7,20 +7,20 @@ use Rattle.rsc_search.specs.Inputs.{InputParts}
 use Rattle.rsc_search.specs.Matches.{Matched}
 use Rattle.rsc_search.specs.declared.span.Span.{Span}
 use Rattle.rsc_captures.specs.Captured.{Captured, group_span}
-use Rattle.rsc_captures.specs.Groups.{GroupLists, group_count, slot_number, slot_of, all_groups}
+use Rattle.rsc_captures.specs.Groups.{GroupLists, group_count, slot_number, slot_of, all_group_count}
 use Rattle.rsc_engine.specs.Searches.{Compiled, search_in}
-use Rattle.rsc_engine.specs.NextMatches.{MatchesLeft, IsNextMatch, IsOver, AreAll, after}
+use Rattle.rsc_engine.specs.NextMatches.{MatchesLeft, IsNextMatch, IsOver, AreAllMatches, after}
 use Rattle.rsc_engine.specs.Patterns.{Pattern, Subject, Goes, subject_of, IsMatchIn}
 use Rattle.rsc_engine.specs.FirstEnds.{loops_take_bytes, IsFirstEnd}
 use Rattle.rsc_engine.specs.GroupNumbers.{as_whole}
 use Rattle.rsc_engine.specs.PreferredWays.{IsPreferredWay}
-use Rattle.rsc_engine.specs.PatternMatches.{HoldRecords, recorded_span, IsNextOf, IsBuiltOf, HasSlotsOf}
+use Rattle.rsc_engine.specs.PatternMatches.{HoldRecords, recorded_span, IsNextOfPatterns, AnswersAs, HasSlotsOf}
 use Rattle.rsc_uses.specs.Lexed.{NoneGoes, IsLexed, AreLexed, AreLexedWith}
 use Rattle.rsc_uses.proofs.EngineLemmas.{AreFirst}
 
 -- what laws of the engine say of the next matches of a program
 pub record Laws {W : Type 0} (chars : W → ℕ → Bool) (program : Compiled W) (patterns : List Pattern) : Type 0 where
-  pub built : IsBuiltOf chars program patterns
+  pub built : AnswersAs chars program patterns
   pub first_end : (input : InputParts) (last : Option ℕ) (captures : Captured) (found : Matched) (p : Pattern)
       → IsNextMatch (search_in chars program input) last captures found → slice_get patterns found.pattern ≡ Some p → loops_take_bytes p ≡ true
       → IsFirstEnd (subject_of (search_in chars program input)) p (λ j. j ≤ input.span.end) found.span.start found.span.end
@@ -44,7 +44,7 @@ match_at : {W : Type 0} (chars : W → ℕ → Bool) (program : Compiled W) (pat
     → slice_get patterns number ≡ Some pattern → to ≤ length text → Goes (read_by chars program.automaton.matcher text) pattern at to
     → IsMatchIn patterns (search_in chars program (rest_of text at)) (record { pattern = number; span = record { start = at; end = to } })
 match_at chars program patterns text at number to pattern its within goes =
-    record { pattern = pattern; its = its; wanted = refl; start = omega arith; end = within; goes = goes }
+    record { pattern = pattern; is_pattern = its; allowed = refl; start = omega arith; end = within; goes = goes }
 
 -- where the iteration is over no pattern goes on
 none_left : {W : Type 0} (chars : W → ℕ → Bool) (program : Compiled W) (patterns : List Pattern) (text : List ℕ) (at : ℕ) (last : Option ℕ)
@@ -63,14 +63,14 @@ token : {W : Type 0} (chars : W → ℕ → Bool) (program : Compiled W) (patter
 token chars program patterns text at last captures found laws next = (
   record {
     pattern = m.pattern;
-    its = m.its;
+    its = m.is_pattern;
     start = start;
     end = m.end;
     goes = subst (λ (i : ℕ). Goes (read_by chars program.automaton.matcher text) m.pattern i found.span.end) start m.goes;
     way = (n.records, way);
     first_end = λ loops.
         subst (λ (i : ℕ). IsFirstEnd (read_by chars program.automaton.matcher text) m.pattern (λ j. j ≤ length text) i found.span.end) start
-        (laws.first_end (rest_of text at) last captures found m.pattern next m.its loops);
+        (laws.first_end (rest_of text at) last captures found m.pattern next m.is_pattern loops);
     first = λ number pattern to l its within goes.
         let least = n.preferred.least (record { pattern = number; span = record { start = at; end = to } })
         (match_at chars program patterns text at number to pattern its within goes) (sym start) in
@@ -81,7 +81,7 @@ token chars program patterns text at last captures found laws next = (
   n.hold,
 )
   where
-    n : IsNextOf patterns program.automaton.groups (search_in chars program (rest_of text at)) last captures found
+    n : IsNextOfPatterns patterns program.automaton.groups (search_in chars program (rest_of text at)) last captures found
     n = laws.built.next (rest_of text at) last captures found next
 
     m : IsMatchIn patterns (search_in chars program (rest_of text at)) found
@@ -96,7 +96,7 @@ token chars program patterns text at last captures found laws next = (
         (λ j. j ≤ length text) i found.span.end n.records) start n.preferred.way
 
 pub lexed : {W : Type 0} (chars : W → ℕ → Bool) (program : Compiled W) (patterns : List Pattern) (text : List ℕ) (at : ℕ) (last : Option ℕ)
-    (all : List Matched) → Laws chars program patterns → AreAll chars (record { program = program; input = rest_of text at; last = last }) all
+    (all : List Matched) → Laws chars program patterns → AreAllMatches chars (record { program = program; input = rest_of text at; last = last }) all
     → AreLexed (read_by chars program.automaton.matcher text) patterns program.automaton.groups at all
 lexed chars program patterns text at last [] laws over = none_left chars program patterns text at last laws over
 lexed chars program patterns text at last (found ∷ rest) laws all = (
@@ -112,11 +112,11 @@ IsNextWith chars group left both =
     (captures : Captured) × IsNextMatch (search_in chars left.program left.input) left.last captures both.0
     × HasSlotsOf left.program captures × (both.1 ≡ group_span captures group)
     × (group < group_count left.program.automaton.groups both.0.pattern →
-    slot_number left.program.automaton.groups both.0.pattern group + 1 < 2 * all_groups left.program.automaton.groups)
+    slot_number left.program.automaton.groups both.0.pattern group + 1 < 2 * all_group_count left.program.automaton.groups)
 
 -- a group that is there has its slots
 pub slot_within : (lists others : GroupLists) (p g : ℕ) (o : Option ℕ) → lists ≡ others → o ≡ slot_of lists p g
-    → IfSome o (λ slot. slot + 1 < 2 * all_groups lists) → g < group_count others p → slot_number others p g + 1 < 2 * all_groups others
+    → IfSome o (λ slot. slot + 1 < 2 * all_group_count lists) → g < group_count others p → slot_number others p g + 1 < 2 * all_group_count others
 slot_within lists others p g o same is within l =
     let e : nat_lt g (group_count lists p) ≡ true = rw same (grind (arith, nat_tests)) in
     rw (← same) (rw (is, e) at within)

@@ -4,20 +4,20 @@ use Rattle.rsc_search.specs.Matches.{Matched}
 use Rattle.rsc_captures.specs.Captured.{Captured}
 use Rattle.rsc_search.specs.Inputs.{whole}
 use Rattle.rsc_engine.specs.Searches.{Compiled, search_in}
-use Rattle.rsc_engine.specs.NextMatches.{MatchesLeft, AreAll, after}
-use Rattle.rsc_replace.specs.Replacements.{MatchWith, AreAllWith, AreFirstWith, with_matches_filled}
+use Rattle.rsc_engine.specs.NextMatches.{MatchesLeft, AreAllMatches, after}
+use Rattle.rsc_replace.specs.Replacements.{MatchWithCaptures, AreAllWithCaptures, AreFirstWithCaptures, with_matches_filled}
 use Rattle.rsc_replace.specs.Templates.{filled}
 use Rattle.rsc_uses.specs.Masked.{masked, IsFirstMasked}
 
-abbrev pub matches_of : List MatchWith → List Matched
-matches_of all = map (λ (m : MatchWith). m.found) all
+abbrev pub matches_of : List MatchWithCaptures → List Matched
+matches_of all = map (λ (m : MatchWithCaptures). m.found) all
 
-pub all_found : {W : Type 0} (chars : W → ℕ → Bool) (left : MatchesLeft W) (all : List MatchWith) → AreAllWith chars left all
-    → AreAll chars left (matches_of all)
+pub all_found : {W : Type 0} (chars : W → ℕ → Bool) (left : MatchesLeft W) (all : List MatchWithCaptures) → AreAllWithCaptures chars left all
+    → AreAllMatches chars left (matches_of all)
 all_found chars left [] over = over
 all_found chars left (m ∷ rest) found = ((m.captures, found.0), all_found chars (after left m.found) rest found.2)
 
-pub filled_masked : (text mask : List ℕ) → ((captures : Captured) → filled text captures mask ≡ mask) → (from : ℕ) (all : List MatchWith)
+pub filled_masked : (text mask : List ℕ) → ((captures : Captured) → filled text captures mask ≡ mask) → (from : ℕ) (all : List MatchWithCaptures)
     → with_matches_filled text mask from all ≡ masked text mask from (matches_of all)
 filled_masked text mask law from [] = refl
 filled_masked text mask law from (m ∷ rest) =
@@ -27,8 +27,8 @@ filled_masked text mask law from (m ∷ rest) =
 
 -- of one match at most
 pub first_masked : {W : Type 0} (chars : W → ℕ → Bool) (program : Compiled W) (text mask out : List ℕ)
-    → ((captures : Captured) → filled text captures mask ≡ mask) → (first : List MatchWith)
-    → AreFirstWith chars 1 (record { program = program; input = whole text; last = None }) first → out ≡ with_matches_filled text mask 0 first
+    → ((captures : Captured) → filled text captures mask ≡ mask) → (first : List MatchWithCaptures)
+    → AreFirstWithCaptures chars 1 (record { program = program; input = whole text; last = None }) first → out ≡ with_matches_filled text mask 0 first
     → IsFirstMasked (search_in chars program (whole text)) text mask out
 first_masked chars program text mask out law [] over is = inl (is, over)
 first_masked chars program text mask out law (m ∷ []) next is = inr (

@@ -5,14 +5,14 @@ use Rattle.std.proofs.lemmas.List.{length-replicate}
 use Rattle.rsc_nfa.specs.Steps.{place}
 use Rattle.rsc_search.specs.Inputs.{InputParts, whole}
 use Rattle.rsc_search.specs.Matches.{Matched}
-use Rattle.rsc_search.specs.Modes.{pattern_of_mode}
-use Rattle.rsc_captures.specs.Groups.{Groups, GroupLists, group_count, slot_number, all_groups}
+use Rattle.rsc_search.specs.Modes.{only_pattern}
+use Rattle.rsc_captures.specs.Groups.{Groups, GroupLists, group_count, slot_number, all_group_count}
 use Rattle.rsc_search.specs.declared.span.Span.{Span}
-use Rattle.rsc_captures.specs.Captured.{Captured, no_offsets, group_span}
+use Rattle.rsc_captures.specs.Captured.{Captured, unset_captures, group_span}
 use Rattle.rsc_engine.specs.Searches.{Compiled, Search, search_in}
-use Rattle.rsc_engine.specs.Runs.{is_wanted}
+use Rattle.rsc_engine.specs.Runs.{is_allowed}
 use Rattle.rsc_engine.specs.Preferred.{MayBegin}
-use Rattle.rsc_engine.specs.NextMatches.{MayBeNext, IsRepeatAt, IsSplitAt}
+use Rattle.rsc_engine.specs.NextMatches.{MayBeNext, IsRepeatAt, SplitsAt}
 use Rattle.rsc_engine.specs.Patterns.{Pattern, Then, Group, Subject, Goes, subject_of, IsMatchIn}
 use Rattle.rsc_engine.specs.FirstEnds.{IsFirstEnd}
 use Rattle.rsc_engine.specs.GroupNumbers.{as_whole}
@@ -37,7 +37,7 @@ pub goes_of : {W : Type 0} (chars : W → ℕ → Bool) (program : Compiled W) (
 goes_of {W = W} chars program word_class p haystack found matcher m =
     subst (λ (x : ℕ × W). Goes (record { haystack = haystack; terminator = x.0; word_chars = chars x.1 }) p found.span.start found.span.end) matcher
     (subst (λ (q : Pattern). Goes (record { haystack = haystack; terminator = program.automaton.matcher.0; word_chars = chars program.automaton.matcher.1 }) q
-    found.span.start found.span.end) (its_only p m.pattern found.pattern m.its) m.goes)
+    found.span.start found.span.end) (its_only p m.pattern found.pattern m.is_pattern) m.goes)
 
 -- and ends where the pattern's first end is
 pub first_end_of : {W : Type 0} (chars : W → ℕ → Bool) (program : Compiled W) (word_class : W) (p : Pattern) (haystack : List ℕ) (found : Matched)
@@ -49,18 +49,18 @@ first_end_of {W = W} chars program word_class p haystack found matcher m first =
     subst (λ (x : ℕ
     × W). IsFirstEnd (record { haystack = haystack; terminator = x.0; word_chars = chars x.1 }) p (λ j. j ≤ length haystack) found.span.start
     found.span.end) matcher
-    (first (m.its ∙ ap (λ (q : Pattern). Some q) (its_only p m.pattern found.pattern m.its)))
+    (first (m.is_pattern ∙ ap (λ (q : Pattern). Some q) (its_only p m.pattern found.pattern m.is_pattern)))
 
 -- and it's of pattern 0
 pub number_of : (p : Pattern) (e : Search) (found : Matched) → IsMatchIn (p ∷ []) e found → found.pattern ≡ 0
-number_of p e found m = only found.pattern m.its
+number_of p e found m = only found.pattern m.is_pattern
   where
     only : (n : ℕ) → slice_get (p ∷ []) n ≡ Some m.pattern → n ≡ 0
     only zero h = refl
     only (suc n) h = absurd (cc)
 
 pub its_of : (p : Pattern) (e : Search) (found : Matched) → IsMatchIn (p ∷ []) e found → slice_get (p ∷ []) found.pattern ≡ Some p
-its_of p e found m = m.its ∙ ap (λ (q : Pattern). Some q) (its_only p m.pattern found.pattern m.its)
+its_of p e found m = m.is_pattern ∙ ap (λ (q : Pattern). Some q) (its_only p m.pattern found.pattern m.is_pattern)
 
 -- its pattern has a first group
 has_first : (lists : GroupLists) (groups : Groups) (p : ℕ) → lists ≡ (None ∷ groups) ∷ [] → p ≡ 0 → 0 < group_count lists p
@@ -68,20 +68,20 @@ has_first lists groups p is zero_is = rw (is, zero_is) (omega arith)
 
 -- captures that are made for a program of one pattern have room for its first group
 pub has_room : {W : Type 0} (program : Compiled W) (groups : Groups) (made after : Captured) → program.automaton.groups ≡ (None ∷ groups) ∷ []
-    → made ≡ no_offsets program.automaton.groups (2 * all_groups program.automaton.groups) → length after.offsets ≡ length made.offsets
+    → made ≡ unset_captures program.automaton.groups (2 * all_group_count program.automaton.groups) → length after.offsets ≡ length made.offsets
     → 1 < length after.offsets
 has_room program groups made after lists is_made same = omega (
   arith,
   same,
   ap (λ (c : Captured). length c.offsets) is_made,
-  length-replicate {A = Option ℕ} (2 * all_groups program.automaton.groups) None,
-  ap all_groups lists,
+  length-replicate {A = Option ℕ} (2 * all_group_count program.automaton.groups) None,
+  ap all_group_count lists,
 )
 
 -- so its group 0 is its match's span, where group 0 of a match is
 pub first_group : {W : Type 0} (program : Compiled W) (groups : Groups) (made after : Captured) (found : Matched)
     → program.automaton.groups ≡ (None ∷ groups) ∷ []
-    → made ≡ no_offsets program.automaton.groups (2 * all_groups program.automaton.groups) → length after.offsets ≡ length made.offsets
+    → made ≡ unset_captures program.automaton.groups (2 * all_group_count program.automaton.groups) → length after.offsets ≡ length made.offsets
     → after.groups ≡ made.groups → found.pattern ≡ 0
     → (2 * found.pattern + 1 < length after.offsets → 0 < group_count after.groups found.pattern → group_span after 0 ≡ Some found.span)
     → group_span after 0 ≡ Some found.span
@@ -90,11 +90,11 @@ first_group program groups made after found lists is_made same its zero_is law =
     (has_first after.groups groups found.pattern (its ∙ (ap (λ (c : Captured). c.groups) is_made ∙ lists)) zero_is)
 
 -- captures that are made for the program have two slots for each of its groups
-pub count_slots : (lists made_for : GroupLists) (made after : Captured) → made_for ≡ lists → made ≡ no_offsets made_for (2 * all_groups made_for)
-    → length after.offsets ≡ length made.offsets → length after.offsets ≡ 2 * all_groups lists
+pub count_slots : (lists made_for : GroupLists) (made after : Captured) → made_for ≡ lists → made ≡ unset_captures made_for (2 * all_group_count made_for)
+    → length after.offsets ≡ length made.offsets → length after.offsets ≡ 2 * all_group_count lists
 count_slots lists made_for made after its is_made same =
-    same ∙ (ap (λ (c : Captured). length c.offsets) is_made ∙ (length-replicate {A = Option ℕ} (2 * all_groups made_for) None
-    ∙ ap (λ (l : GroupLists). 2 * all_groups l) its))
+    same ∙ (ap (λ (c : Captured). length c.offsets) is_made ∙ (length-replicate {A = Option ℕ} (2 * all_group_count made_for) None
+    ∙ ap (λ (l : GroupLists). 2 * all_group_count l) its))
 
 -- the first group of a part before another: where the part goes, if it's where its part goes
 pub group_goes : {W : Type 0} (chars : W → ℕ → Bool) (program : Compiled W) (word_class : W) (p q : Pattern) (groups : Groups) (haystack : List ℕ)
@@ -104,7 +104,7 @@ pub group_goes : {W : Type 0} (chars : W → ℕ → Bool) (program : Compiled W
     → Goes (subject_of (search_in chars program (whole haystack))) p i j) → Goes (text_of haystack (chars word_class)) p i j
 group_goes {W = W} chars program word_class p q groups haystack found i j matcher lists m law =
     subst (λ (x : ℕ × W). Goes (record { haystack = haystack; terminator = x.0; word_chars = chars x.1 }) p i j) matcher
-    (law (m.its ∙ ap (λ (r : Pattern). Some r) (its_only (Then (Group 0 p) q) m.pattern found.pattern m.its))
+    (law (m.is_pattern ∙ ap (λ (r : Pattern). Some r) (its_only (Then (Group 0 p) q) m.pattern found.pattern m.is_pattern))
     (rw (lists, number_of (Then (Group 0 p) q) (search_in chars program (whole haystack)) found m) (omega arith)))
 
 -- ---- a group that is gone through first is set
@@ -169,22 +169,22 @@ no_span c g slot records o is none same = sym same ∙ (sym is ∙ none)
 
 -- captures that are made for a program of such a pattern have room for that group
 pub group_there : (lists : GroupLists) (groups : Groups) (made after : Captured) (pattern : ℕ) → lists ≡ (None ∷ None ∷ groups) ∷ []
-    → made ≡ no_offsets lists (2 * all_groups lists) → length after.offsets ≡ length made.offsets → pattern ≡ 0
+    → made ≡ unset_captures lists (2 * all_group_count lists) → length after.offsets ≡ length made.offsets → pattern ≡ 0
     → (1 < group_count lists pattern) × (slot_number lists pattern 1 + 1 < length after.offsets)
 group_there lists groups made after pattern is is_made same zero_is =
     let slots = count_slots lists lists made after refl is_made same in
-    rw (is, zero_is) (omega arith, omega (arith, slots, ap all_groups is))
+    rw (is, zero_is) (omega arith, omega (arith, slots, ap all_group_count is))
 
 -- where one of the patterns goes is a match
 pub match_in : {W : Type 0}
     (chars : W → ℕ → Bool) (program : Compiled W) (word_class : W) (patterns : List Pattern) (n : ℕ) (p : Pattern) (input : InputParts)
-    (i j : ℕ) → program.automaton.matcher ≡ (10, word_class) → slice_get patterns n ≡ Some p → is_wanted (pattern_of_mode input.anchored) n ≡ true
+    (i j : ℕ) → program.automaton.matcher ≡ (10, word_class) → slice_get patterns n ≡ Some p → is_allowed (only_pattern input.anchored) n ≡ true
     → input.span.start ≤ i → j ≤ input.span.end → Goes (text_of input.haystack (chars word_class)) p i j
     → IsMatchIn patterns (search_in chars program input) (record { pattern = n; span = record { start = i; end = j } })
 match_in {W = W} chars program word_class patterns n p input i j matcher its wanted from within g = record {
   pattern = p;
-  its = its;
-  wanted = wanted;
+  is_pattern = its;
+  allowed = wanted;
   start = from;
   end = within;
   goes = subst (λ (x : ℕ × W). Goes (record { haystack = input.haystack; terminator = x.0; word_chars = chars x.1 }) p i j) (sym matcher) g;
@@ -208,7 +208,7 @@ pub may_be_next : {W : Type 0} (chars : W → ℕ → Bool) (program : Compiled 
 may_be_next chars program haystack i l = record { start = omega arith; end = l; anchored = λ other. absurd (other refl) }
 
 -- where no match came before, and the haystack isn't taken for text, none is left out
-pub none_left_out : (e : Search) (at : ℕ) → e.utf8 ≡ false → IsRepeatAt e None at ⊎ IsSplitAt e at → ⊥
+pub none_left_out : (e : Search) (at : ℕ) → e.utf8 ≡ false → IsRepeatAt e None at ⊎ SplitsAt e at → ⊥
 none_left_out e at plain (inl r) = none_is_some (place r.run 0).1 r.repeats.there
   where
     none_is_some : (i : ℕ) → None ≡ Some i → ⊥

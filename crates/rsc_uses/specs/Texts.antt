@@ -3,9 +3,9 @@ use Rattle.std.specs.Prelude.{◌≡◌, ℕ, ◌<◌, ◌≤◌, Bool, true, Li
 use Rattle.rsc_search.specs.declared.anchored.Anchored.TheVariants.{No}
 use Rattle.rsc_search.specs.declared.span.Span.{Span}
 use Rattle.rsc_search.specs.Inputs.{InputParts}
-use Rattle.rsc_search.specs.Modes.{pattern_of_mode}
+use Rattle.rsc_search.specs.Modes.{only_pattern}
 use Rattle.rsc_engine.specs.Patterns.{Pattern, Subject, Goes}
-use Rattle.rsc_engine.specs.Runs.{is_wanted}
+use Rattle.rsc_engine.specs.Runs.{is_allowed}
 use Rattle.rsc_engine.specs.Ways.{last_in}
 use Rattle.rsc_engine.specs.FirstWays.{IsFirstWay}
 use Rattle.rsc_engine.specs.PreferredWays.{IsPreferredWay}
@@ -26,7 +26,7 @@ GoesNowhere x p = (i j : ℕ) → i ≤ length x.haystack → j ≤ length x.hay
 abbrev pub GoesNowhereIn : InputParts → (ℕ → Bool) → Pattern → Type 0
 GoesNowhereIn input chars p =
     (i j : ℕ) → input.span.start ≤ i → i ≤ input.span.end → (¬ (input.anchored ≡ No) → i ≡ input.span.start)
-    → is_wanted (pattern_of_mode input.anchored) 0 ≡ true → j ≤ input.span.end → ¬ (Goes (text_of input.haystack chars) p i j)
+    → is_allowed (only_pattern input.anchored) 0 ≡ true → j ≤ input.span.end → ¬ (Goes (text_of input.haystack chars) p i j)
 
 -- of the pattern's ways from the span's start to positions up to a last one, the first leads to the span's end, and the slots hold what it records in them last
 abbrev pub HoldsFirstWay : Subject → Pattern → ℕ → Span → List (Option ℕ) → Type 0

@@ -2,7 +2,7 @@
 ghost use Rattle.std.specs.Prelude.{◌≡◌, ◌↔◌, ◌+◌, ◌*◌, ◌^◌, ◌<◌, ◌≤◌, ℕ, All, IsTrue, IfSome, is_none, length, slice_get, slice_index, true, if◌then◌else◌};
 ghost use Rattle.std.specs.FinSet as sets;
 ghost use Rattle.rsc_alphabet.specs.ByteSets.{members, runs};
-ghost use Rattle.rsc_alphabet.specs.Partitions.{LastClassIsGreatest, Together, class_map, boundaries_of_ranges};
+ghost use Rattle.rsc_alphabet.specs.Partitions.{LastClassIsGreatest, AreTogether, class_map, boundaries_of_ranges};
 ghost use Rattle.std.specs.declared.ops.Bound.TheVariants.{Unbounded};
 ghost use Rattle.rsc_alphabet.specs.Iterators.{stride2_of, symbol_count, symbols, elements_of, representatives_of};
 ghost use Rattle.std.specs.List.{Contains};
@@ -63,7 +63,7 @@ pub fn transition_of_partition(
 
 /// Whether two bytes share a column of every table over the classes of the partition: exactly if no boundary lies between them.
 pub fn share_a_column(partition: &ByteClassSet, b: u8, c: u8) -> bool
-    ensures { IsTrue result ↔ Together (sets.contains partition.now) b c }
+    ensures { IsTrue result ↔ AreTogether (sets.contains partition.now) b c }
 {
     laws::one_class_is_together();
     let map = partition.byte_classes();

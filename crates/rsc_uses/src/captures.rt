@@ -3,8 +3,8 @@ ghost use Rattle.std.specs.Prelude.{◌≡◌, ◌+◌, ◌*◌, ◌<◌, ◌≤
 ghost use Rattle.std.specs.Option.{option_map};
 ghost use Rattle.rsc_search.specs.declared.span.Span as spans;
 ghost use Rattle.rsc_search.specs.Spans.{cut_text};
-ghost use Rattle.rsc_captures.specs.Groups.{all_groups, group_count, groups_of, index_of, slot_number};
-ghost use Rattle.rsc_captures.specs.Captured.{group_span, matched_groups, matched_spans, participating, pieces, span_at};
+ghost use Rattle.rsc_captures.specs.Groups.{all_group_count, group_count, groups_of, index_of, slot_number};
+ghost use Rattle.rsc_captures.specs.Captured.{group_span, matched_group_count, matched_spans, participating_spans, pieces, span_at};
 ghost use Rattle.rsc_uses.specs.Replaced.{replaced};
 
 use rsc_captures::{Captures, GroupInfo, laws};
@@ -28,7 +28,7 @@ pub fn write_span(
     start: NonMaxUsize,
     end: NonMaxUsize,
 )
-    requires room { length captures.old.offsets ≡ 2 * all_groups captures.old.groups }
+    requires room { length captures.old.offsets ≡ 2 * all_group_count captures.old.groups }
     requires group { group < group_count captures.old.groups pid }
     ensures within { slot_number captures.old.groups pid group + 1 < length captures.old.offsets }
     ensures written { captures.new ≡ record captures.old {
@@ -86,7 +86,7 @@ pub fn offsets_of_name(
     pid: PatternID,
     name: &str,
 ) -> Option<(Option<NonMaxUsize>, Option<NonMaxUsize>)>
-    requires { length captures.now.offsets ≡ 2 * all_groups captures.now.groups }
+    requires { length captures.now.offsets ≡ 2 * all_group_count captures.now.groups }
     ensures { result ≡ option_map (λ group. (
       slice_index_or captures.now.offsets (slot_number captures.now.groups pid group) None,
       slice_index_or captures.now.offsets (slot_number captures.now.groups pid group + 1) None,
@@ -146,14 +146,14 @@ pub fn index_within(info: &GroupInfo, pid: PatternID, name: &str) -> bool
 
 /// How many names the iterator over all patterns gives, `None` for a group without one: one for each group.
 pub fn count_names(info: &GroupInfo) -> usize
-    ensures { result ≡ all_groups info.now }
+    ensures { result ≡ all_group_count info.now }
 {
     info.all_names().count()
 }
 
 /// How many spans the iterator gives: one for each group of the pattern that matched.
 pub fn count_spans(captures: &Captures) -> usize
-    ensures { result ≡ matched_groups captures.now }
+    ensures { result ≡ matched_group_count captures.now }
 {
     captures.iter().len()
 }
@@ -178,7 +178,7 @@ pub fn iterator_agrees(alloc: Global, captures: &Captures, index: usize) -> Resu
 /// took no part.
 pub fn key_and_value<'h>(captures: &Captures, haystack: &'h str) -> Option<(&'h str, &'h str)>
     ensures { option_map (λ parts. parts.0.now ∷ parts.1.now ∷ []) result
-        ≡ option_map (drop 1) (pieces (cut_text haystack.now) 3 (participating captures.now)) }
+        ≡ option_map (drop 1) (pieces (cut_text haystack.now) 3 (participating_spans captures.now)) }
 {
     let (_, [key, value]) = captures.extract_from::<&str, 2>(haystack)?;
     Some((key, value))

@@ -3,7 +3,7 @@ ghost use Rattle.std.specs.Prelude.{◌≡◌, ◌<◌, ◌⊎◌, Some, None, t
 ghost use Rattle.rsc_search.specs.Matches.{Matched};
 ghost use Rattle.rsc_engine.specs.declared.error.Error.TheVariants.{OutOfMemory};
 ghost use Rattle.rsc_engine.specs.Searches.{search_in};
-ghost use Rattle.rsc_engine.specs.NextMatches.{AreAll};
+ghost use Rattle.rsc_engine.specs.NextMatches.{AreAllMatches};
 ghost use Rattle.rsc_engine.specs.Preferred.{HasNoFirstMatch, IsFirstMatch};
 
 use rsc_captures::Captures;
@@ -96,7 +96,7 @@ pub fn all_matches<W: WordClass + AsciiCompatible>(
     program: &Program<W>,
     input: Input<'_>,
 ) -> Result<Vec<Match>, Error>
-    ensures all { IfOk result (λ all. AreAll W.word_chars (record { program = program.now; input = input.entry; last = None }) all.items) }
+    ensures all { IfOk result (λ all. AreAllMatches W.word_chars (record { program = program.now; input = input.entry; last = None }) all.items) }
     ensures refused { IfErr result (λ e. e ≡ OutOfMemory) }
 {
     let mut captures = program.captures(alloc)?;
@@ -111,7 +111,7 @@ pub fn all_over<'p, 'h, W: WordClass + AsciiCompatible>(
     captures: &mut Captures,
     input: Input<'h>,
 ) -> Result<(Vec<Match>, Cache<'p, W>), Error>
-    ensures all { IfOk result (λ both. AreAll W.word_chars (record { program = cache.entry; input = input.entry; last = None }) both.0.items) }
+    ensures all { IfOk result (λ both. AreAllMatches W.word_chars (record { program = cache.entry; input = input.entry; last = None }) both.0.items) }
     ensures cache { IfOk result (λ both. both.1 ≡ cache.entry) }
     ensures refused { IfErr result (λ e. e ≡ OutOfMemory) }
 {

@@ -4,8 +4,8 @@ ghost use Rattle.rsc_engine.specs.FirstEnds.{loops_take_bytes};
 ghost use Rattle.std.specs.List.{list_any};
 ghost use Rattle.rsc_primitives.specs.Utf8.{is_word_byte};
 ghost use Rattle.rsc_engine.specs.Patterns.{Class, Repeat, Goes, may_be_empty};
-ghost use Rattle.rsc_engine.specs.Parts.{pattern_of, patterns_of, groups_of_pattern, lists_of};
-ghost use Rattle.rsc_engine.specs.Refusals.{FailsToBuild, RunsOut};
+ghost use Rattle.rsc_engine.specs.Parts.{pattern_of, patterns_of, groups_as_pattern, group_lists_of};
+ghost use Rattle.rsc_engine.specs.Refusals.{IsErrorWithAnyLimit, RunsOut};
 ghost use Rattle.rsc_uses.specs.Lexed.{AreLexed, AreLexedWith};
 ghost use Rattle.rsc_uses.specs.Texts.{text_of, GoesNowhere};
 
@@ -27,8 +27,8 @@ pub fn tokens_of<'n, W: WordClass + AsciiCompatible>(
     requires { list_any may_be_empty (patterns_of builder ++ pattern_of last ∷ []) ≡ false }
     ensures tokens { IfOk result (λ tokens.
         AreLexed (text_of text.now (W.word_chars word_class)) (patterns_of builder.entry ++ pattern_of last.entry ∷ [])
-        (lists_of builder.entry ++ groups_of_pattern last.entry ∷ []) 0 tokens.items) }
-    ensures refused { IfErr result (FailsToBuild (lists_of builder.entry ++ groups_of_pattern last.entry ∷ [])) }
+        (group_lists_of builder.entry ++ groups_as_pattern last.entry ∷ []) 0 tokens.items) }
+    ensures refused { IfErr result (IsErrorWithAnyLimit (group_lists_of builder.entry ++ groups_as_pattern last.entry ∷ [])) }
 {
     laws::anchored_matches_are_side_by_side::<W>();
     laws::a_match_ends_at_its_first_end::<W>();
@@ -50,8 +50,8 @@ pub fn tokens_with_group<'n, W: WordClass + AsciiCompatible>(
     requires { list_any may_be_empty (patterns_of builder ++ pattern_of last ∷ []) ≡ false }
     ensures tokens { IfOk result (λ tokens.
         AreLexedWith (text_of text.now (W.word_chars word_class)) (patterns_of builder.entry ++ pattern_of last.entry ∷ [])
-        (lists_of builder.entry ++ groups_of_pattern last.entry ∷ []) group 0 tokens.items) }
-    ensures refused { IfErr result (FailsToBuild (lists_of builder.entry ++ groups_of_pattern last.entry ∷ [])) }
+        (group_lists_of builder.entry ++ groups_as_pattern last.entry ∷ []) group 0 tokens.items) }
+    ensures refused { IfErr result (IsErrorWithAnyLimit (group_lists_of builder.entry ++ groups_as_pattern last.entry ∷ [])) }
 {
     laws::anchored_matches_are_side_by_side::<W>();
     laws::a_match_ends_at_its_first_end::<W>();
@@ -84,10 +84,10 @@ pub fn tokens_of_parts<'n, W: WordClass + AsciiCompatible>(
 ) -> Result<Option<Vec<Match>>, Error>
     ensures found { IfOk result (λ found. IfSome found (λ tokens.
         AreLexed (text_of text.now (W.word_chars word_class)) (map pattern_of parts.entry.items ++ pattern_of last.entry ∷ [])
-        (map groups_of_pattern parts.entry.items ++ groups_of_pattern last.entry ∷ []) 0 tokens.items)) }
+        (map groups_as_pattern parts.entry.items ++ groups_as_pattern last.entry ∷ []) 0 tokens.items)) }
     ensures none { IfOk result (λ found. IsTrue (is_none found) ↔
         IsTrue (list_any may_be_empty (map pattern_of parts.entry.items ++ pattern_of last.entry ∷ []))) }
-    ensures refused { IfErr result (FailsToBuild (map groups_of_pattern parts.entry.items ++ groups_of_pattern last.entry ∷ [])) }
+    ensures refused { IfErr result (IsErrorWithAnyLimit (map groups_as_pattern parts.entry.items ++ groups_as_pattern last.entry ∷ [])) }
 {
     let mut builder = Builder::new(alloc);
     for part in parts {
@@ -143,7 +143,7 @@ pub fn bytes_of_group<'h, W: WordClass + AsciiCompatible>(
         × (bytes.now ≡ slice_range text.now s t)
         × Goes (text_of text.now (W.word_chars word_class)) (pattern_of part.entry) i j)) }
     ensures none { IfOk result (λ found. IfNone found (group ≡ 0 → GoesNowhere (text_of text.now (W.word_chars word_class)) (pattern_of part.entry))) }
-    ensures refused { IfErr result (FailsToBuild (groups_of_pattern part.entry ∷ [])) }
+    ensures refused { IfErr result (IsErrorWithAnyLimit (groups_as_pattern part.entry ∷ [])) }
 {
     laws::a_group_that_begins_ends::<W>();
     laws::a_first_match_is_of_a_pattern::<W>();

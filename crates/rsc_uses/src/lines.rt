@@ -1,7 +1,7 @@
 //! The lines of a text in which a program matches.
 ghost use Rattle.std.specs.Prelude.{◌≡◌, IfOk, IfErr};
 ghost use Rattle.rsc_engine.specs.declared.error.Error.TheVariants.{OutOfMemory};
-ghost use Rattle.rsc_engine.specs.Lines.{AreLines};
+ghost use Rattle.rsc_engine.specs.Lines.{AreAllMatchingLines};
 
 use rsc_engine::{AsciiCompatible, Dfa, Error, Lines};
 use rsc_look::WordClass;
@@ -14,7 +14,7 @@ pub fn all_lines<'p, W: WordClass + AsciiCompatible>(
     dfa: Dfa<'p, W>,
     text: &[u8],
 ) -> Result<(Vec<Span>, Dfa<'p, W>), Error>
-    ensures all { IfOk result (λ both. AreLines W.word_chars (record { program = dfa.entry; haystack = text.now; at = 0 }) both.0.items) }
+    ensures all { IfOk result (λ both. AreAllMatchingLines W.word_chars (record { program = dfa.entry; haystack = text.now; from = 0 }) both.0.items) }
     ensures dfa { IfOk result (λ both. both.1 ≡ dfa.entry) }
     ensures refused { IfErr result (λ e. e ≡ OutOfMemory) }
 {

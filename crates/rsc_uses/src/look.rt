@@ -3,7 +3,7 @@ ghost use Rattle.std.specs.Prelude.{◌≡◌, ◌↔◌, ◌<◌, ◌≤◌, �
 ghost use Rattle.std.specs.List.{list_any};
 ghost use Rattle.std.specs.FinSet as sets;
 ghost use Rattle.std.specs.Int.{is_in_range};
-ghost use Rattle.rsc_alphabet.specs.Partitions.{Together};
+ghost use Rattle.rsc_alphabet.specs.Partitions.{AreTogether};
 ghost use Rattle.rsc_alphabet.specs.Ranges.{are_alike};
 ghost use Rattle.rsc_look.specs.declared.assertion.Look.{Look};
 ghost use Rattle.rsc_look.specs.Looks.{is_unicode, repr_of};

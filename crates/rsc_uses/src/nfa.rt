@@ -1,8 +1,8 @@
 //! Runs of an automaton.
 ghost use Rattle.std.specs.Prelude.{◌≡◌, ◌<◌, ◌≤◌, ◌+◌, ◌⊎◌, ℕ, All, IsTrue, IfSome, IfNone, Some, None, not, true, length, slice_get, slice_index};
 ghost use Rattle.rsc_look.specs.Keeping.{AgreesWithAscii};
-ghost use Rattle.rsc_nfa.specs.Classes.{has_unicode, KeepsRuns};
-ghost use Rattle.rsc_nfa.specs.Steps.{IsRun, recorded, AreClosed};
+ghost use Rattle.rsc_nfa.specs.Classes.{has_unicode_assertion, KeepsRuns};
+ghost use Rattle.rsc_nfa.specs.Steps.{IsRun, recorded, RecordsAreFollowed};
 ghost use Rattle.rsc_nfa.specs.declared.state.State.TheVariants.{ByteRange};
 
 use rsc_alphabet::{ByteClassSet, ByteClasses};
@@ -35,14 +35,14 @@ pub fn accepts_one_byte<W: WordClass>(
 
 /// Whether an automaton asserts nothing of characters, so that a table over bytes can follow it everywhere.
 pub fn looks_at_bytes_alone<W: WordClass>(nfa: &Nfa<W>) -> bool
-    ensures { result ≡ not (has_unicode nfa.now.states) }
+    ensures { result ≡ not (has_unicode_assertion nfa.now.states) }
 {
     !nfa.looks().contains_word_unicode()
 }
 
 /// Classes for a table that stops at every byte from 128 on: they keep the runs, and no class has bytes on both sides of 128.
 pub fn classes_to_stop<W: WordClass>(nfa: &Nfa<W>) -> ByteClasses
-    ensures kept { (has_unicode nfa.now.states ≡ true → AgreesWithAscii (W.word_chars nfa.now.matcher.1)) →
+    ensures kept { (has_unicode_assertion nfa.now.states ≡ true → AgreesWithAscii (W.word_chars nfa.now.matcher.1)) →
         KeepsRuns result nfa.now.states nfa.now.matcher.0 (W.word_chars nfa.now.matcher.1) }
     ensures apart { ¬ (slice_index result 127 ≡ slice_index result 128) }
 {
@@ -61,7 +61,7 @@ pub fn record_match<W: WordClass>(
 ) -> Option<(usize, usize)>
     requires is_run { IsRun nfa.now.states nfa.now.matcher.0 (W.word_chars nfa.now.matcher.1)
         input.now.haystack input.now.span.start input.now.span.end run.now }
-    requires closed { AreClosed nfa.now.states run.now 0 1 }
+    requires closed { RecordsAreFollowed nfa.now.states run.now 0 1 }
     requires positions { All (λ place. place.1 < usize.MAX) run.now }
     requires room { 2 ≤ length captures.old.offsets }
     ensures start { IfSome result (λ offsets. recorded nfa.now.states run.now 0 ≡ Some offsets.0) }

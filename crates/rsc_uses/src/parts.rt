@@ -2,15 +2,15 @@
 ghost use Rattle.std.specs.FinSet as sets;
 ghost use Rattle.std.specs.Prelude.{◌≡◌, ◌*◌, ◌<◌, ◌≤◌, ◌++◌, [], ◌∷◌, ℕ, Some, None, true, false, IfOk, IfErr, OnOk, IfSome, IfNone, length, slice_index, slice_index_or};
 ghost use Rattle.rsc_captures.specs.Captured.{group_span};
-ghost use Rattle.rsc_captures.specs.Groups.{all_groups};
+ghost use Rattle.rsc_captures.specs.Groups.{all_group_count};
 ghost use Rattle.rsc_look.specs.declared.assertion.Look.{Look};
 ghost use Rattle.rsc_engine.specs.Asks.{asks};
 ghost use Rattle.rsc_engine.specs.declared.error.Error.TheVariants.{OutOfMemory};
 ghost use Rattle.rsc_engine.specs.Patterns.{Goes, Then, Either, Literal, Group, may_be_empty};
 ghost use Rattle.rsc_engine.specs.FirstEnds.{loops_take_bytes, IsFirstEnd};
 ghost use Rattle.rsc_engine.specs.GroupNumbers.{as_whole};
-ghost use Rattle.rsc_engine.specs.Parts.{pattern_of, groups_of_part, groups_of_pattern};
-ghost use Rattle.rsc_engine.specs.Refusals.{FailsToBuild, RepeatsName};
+ghost use Rattle.rsc_engine.specs.Parts.{pattern_of, groups_of_part, groups_as_pattern};
+ghost use Rattle.rsc_engine.specs.Refusals.{IsErrorWithAnyLimit, RepeatsName};
 ghost use Rattle.rsc_uses.specs.Texts.{text_of, GoesNowhere, GoesNowhereBefore, GoesNowhereIn, HoldsFirstWay, HoldsPreferredWay, EndsPreferredWay};
 
 use rsc_captures::Captures;
@@ -30,7 +30,7 @@ pub fn looks_of<W: WordClass + AsciiCompatible>(
     part: Part<'_>,
 ) -> Result<LookSet, Error>
     ensures asked { IfOk result (λ set. (look : Look) → sets.contains set look ≡ asks look (pattern_of part.entry)) }
-    ensures refused { IfErr result (FailsToBuild (groups_of_pattern part.entry ∷ [])) }
+    ensures refused { IfErr result (IsErrorWithAnyLimit (groups_as_pattern part.entry ∷ [])) }
 {
     let program = Builder::new(alloc).build(word_class, true, part)?;
     Ok(program.nfa().looks())
@@ -57,9 +57,9 @@ pub fn find_part<W: WordClass + AsciiCompatible>(
     ensures first_end { IfOk result (λ found. IfSome found (λ ends. loops_take_bytes (pattern_of part.entry) ≡ true →
         IsFirstEnd (text_of haystack.now (W.word_chars word_class)) (pattern_of part.entry) (λ j. j ≤ length haystack.now) ends.0 ends.1)) }
     ensures way { IfOk result (λ found. IfSome found (λ ends.
-        EndsPreferredWay (text_of haystack.now (W.word_chars word_class)) (as_whole (groups_of_pattern part.entry ∷ []) 0 (pattern_of part.entry))
+        EndsPreferredWay (text_of haystack.now (W.word_chars word_class)) (as_whole (groups_as_pattern part.entry ∷ []) 0 (pattern_of part.entry))
         (length haystack.now) ends.0 ends.1)) }
-    ensures refused { IfErr result (FailsToBuild (groups_of_pattern part.entry ∷ [])) }
+    ensures refused { IfErr result (IsErrorWithAnyLimit (groups_as_pattern part.entry ∷ [])) }
 {
     laws::one_pattern::a_match_of_one_pattern::<W>();
     laws::a_preferred_way_is_the_first_way();
@@ -83,15 +83,15 @@ pub fn find_with_slots<W: WordClass + AsciiCompatible>(
     ensures start { IfOk result (λ found. IfSome found (λ both. slice_index_or both.1.offsets 0 None ≡ Some both.0.span.start)) }
     ensures end { IfOk result (λ found. IfSome found (λ both. slice_index_or both.1.offsets 1 None ≡ Some both.0.span.end)) }
     ensures group { IfOk result (λ found. IfSome found (λ both. group_span both.1 0 ≡ Some both.0.span)) }
-    ensures slots { IfOk result (λ found. IfSome found (λ both. length both.1.offsets ≡ 2 * all_groups (groups_of_pattern part.entry ∷ []))) }
+    ensures slots { IfOk result (λ found. IfSome found (λ both. length both.1.offsets ≡ 2 * all_group_count (groups_as_pattern part.entry ∷ []))) }
     ensures preferred { IfOk result (λ found. IfSome found (λ both.
-        HoldsPreferredWay (text_of input.now.haystack (W.word_chars word_class)) (as_whole (groups_of_pattern part.entry ∷ []) 0 (pattern_of part.entry))
+        HoldsPreferredWay (text_of input.now.haystack (W.word_chars word_class)) (as_whole (groups_as_pattern part.entry ∷ []) 0 (pattern_of part.entry))
         input.now.span.end both.0.span both.1.offsets)) }
     ensures way { IfOk result (λ found. IfSome found (λ both. loops_take_bytes (pattern_of part.entry) ≡ true →
-        HoldsFirstWay (text_of input.now.haystack (W.word_chars word_class)) (as_whole (groups_of_pattern part.entry ∷ []) 0 (pattern_of part.entry))
+        HoldsFirstWay (text_of input.now.haystack (W.word_chars word_class)) (as_whole (groups_as_pattern part.entry ∷ []) 0 (pattern_of part.entry))
         input.now.span.end both.0.span both.1.offsets)) }
     ensures none { IfOk result (λ found. IfNone found (GoesNowhereIn input.now (W.word_chars word_class) (pattern_of part.entry))) }
-    ensures refused { IfErr result (FailsToBuild (groups_of_pattern part.entry ∷ [])) }
+    ensures refused { IfErr result (IsErrorWithAnyLimit (groups_as_pattern part.entry ∷ [])) }
 {
     laws::one_pattern::a_match_of_one_pattern::<W>();
     laws::a_preferred_way_is_the_first_way();
@@ -113,7 +113,7 @@ pub fn find_with_group<W: WordClass + AsciiCompatible>(
 ) -> Result<Option<(Match, Option<Span>)>, Error>
     ensures group { IfOk result (λ found. IfSome found (λ both. both.1 ≡ Some both.0.span)) }
     ensures none { IfOk result (λ found. IfNone found (GoesNowhereIn input.now (W.word_chars word_class) (pattern_of part.entry))) }
-    ensures refused { IfErr result (FailsToBuild (groups_of_pattern part.entry ∷ [])) }
+    ensures refused { IfErr result (IsErrorWithAnyLimit (groups_as_pattern part.entry ∷ [])) }
 {
     match find_with_slots(alloc, word_class, part, input)? {
         None => Ok(None),
@@ -133,11 +133,11 @@ pub fn find_before<'n, W: WordClass + AsciiCompatible>(
         Goes (text_of haystack.now (W.word_chars word_class)) (pattern_of part.entry) span.start span.end)) }
     ensures none { IfOk result (λ found. IfNone found
         (GoesNowhere (text_of haystack.now (W.word_chars word_class)) (Then (pattern_of part.entry) (pattern_of after.entry)))) }
-    ensures refused { IfErr result (FailsToBuild ((None ∷ None ∷ groups_of_part part.entry ++ groups_of_part after.entry) ∷ [])) }
+    ensures refused { IfErr result (IsErrorWithAnyLimit ((None ∷ None ∷ groups_of_part part.entry ++ groups_of_part after.entry) ∷ [])) }
 {
     laws::a_first_match_is_of_a_pattern::<W>();
     laws::a_group_is_where_its_part_goes::<W>();
-    laws::captures_are_of_the_first_way::<W>();
+    laws::captures_are_of_a_way::<W>();
     laws::a_group_spans_what_its_way_records();
     laws::what_was_recorded_stays();
     let builder = Builder::new(alloc);
@@ -168,7 +168,7 @@ pub fn first_of_two<'n, W: WordClass + AsciiCompatible>(
         ¬ (Goes (text_of haystack.now (W.word_chars word_class)) (pattern_of one.entry) m.span.start j))) }
     ensures none { IfOk result (λ found. IfNone found (GoesNowhere (text_of haystack.now (W.word_chars word_class)) (pattern_of one.entry)
         × GoesNowhere (text_of haystack.now (W.word_chars word_class)) (pattern_of other.entry))) }
-    ensures refused { IfErr result (FailsToBuild (groups_of_pattern one.entry ∷ groups_of_pattern other.entry ∷ [])) }
+    ensures refused { IfErr result (IsErrorWithAnyLimit (groups_as_pattern one.entry ∷ groups_as_pattern other.entry ∷ [])) }
 {
     laws::a_first_match_is_of_a_pattern::<W>();
     laws::a_match_is_of_the_least_pattern::<W>();
@@ -196,7 +196,7 @@ pub fn first_of_iteration<W: WordClass + AsciiCompatible>(
     ensures first { IfOk result (λ found. IfSome found (λ ends.
         GoesNowhereBefore (text_of haystack.now (W.word_chars word_class)) (pattern_of part.entry) ends.0)) }
     ensures none { IfOk result (λ found. IfNone found (GoesNowhere (text_of haystack.now (W.word_chars word_class)) (pattern_of part.entry))) }
-    ensures refused { IfErr result (FailsToBuild (groups_of_pattern part.entry ∷ [])) }
+    ensures refused { IfErr result (IsErrorWithAnyLimit (groups_as_pattern part.entry ∷ [])) }
 {
     laws::a_next_match_is_of_a_pattern::<W>();
     // The haystack isn't taken for text, so no match is left out for being within a character.
@@ -224,9 +224,9 @@ pub fn first_in_text<W: WordClass + AsciiCompatible>(
         GoesNowhereBefore (text_of text.now (W.word_chars word_class)) (pattern_of part.entry) m.span.start)) }
     ensures none { IfOk result (λ found. IfNone found ((i j : ℕ) → j ≤ length text.now →
         ¬ (Goes (text_of text.now (W.word_chars word_class)) (pattern_of part.entry) i j))) }
-    ensures refused { IfErr result (FailsToBuild (groups_of_pattern part.entry ∷ [])) }
+    ensures refused { IfErr result (IsErrorWithAnyLimit (groups_as_pattern part.entry ∷ [])) }
 {
-    laws::no_match_is_left_out::<W>();
+    laws::only_overlapping_matches_are_left_out::<W>();
     laws::one_pattern::a_match_of_one_pattern::<W>();
     let program = Builder::new(alloc).build(word_class, true, part)?;
     let mut captures = program.captures(alloc)?;
@@ -248,7 +248,7 @@ pub fn earliest_end_of_part<W: WordClass + AsciiCompatible>(
     ensures end { IfOk result (λ found. IfSome found (λ end.
         (i : ℕ) × Goes (text_of haystack.now (W.word_chars word_class)) (pattern_of part.entry) i end)) }
     ensures none { IfOk result (λ found. IfNone found (GoesNowhere (text_of haystack.now (W.word_chars word_class)) (pattern_of part.entry))) }
-    ensures refused { IfErr result (FailsToBuild (groups_of_pattern part.entry ∷ [])) }
+    ensures refused { IfErr result (IsErrorWithAnyLimit (groups_as_pattern part.entry ∷ [])) }
 {
     laws::an_earliest_end_is_of_a_pattern::<W>();
     laws::a_first_match_is_of_a_pattern::<W>();
@@ -275,9 +275,9 @@ pub fn leftmost_end_of_part<W: WordClass + AsciiCompatible>(
         × (loops_take_bytes (pattern_of part.entry) ≡ true →
         IsFirstEnd (text_of haystack.now (W.word_chars word_class)) (pattern_of part.entry) (λ j. j ≤ length haystack.now) i end))) }
     ensures none { IfOk result (λ found. IfNone found (GoesNowhere (text_of haystack.now (W.word_chars word_class)) (pattern_of part.entry))) }
-    ensures refused { IfErr result (FailsToBuild (groups_of_pattern part.entry ∷ [])) }
+    ensures refused { IfErr result (IsErrorWithAnyLimit (groups_as_pattern part.entry ∷ [])) }
 {
-    laws::a_leftmost_end_is_of_the_first_match::<W>();
+    laws::a_leftmost_end_is_of_the_least_pattern::<W>();
     laws::a_first_match_is_of_a_pattern::<W>();
     let program = Builder::new(alloc).build(word_class, true, part)?;
     let input = Input::new(haystack);
@@ -312,7 +312,7 @@ pub fn program_of_two<W: WordClass>(
     other: Part<'_>,
 ) -> Result<Program<W>, Error>
     ensures groups { IfOk result (λ program. program.automaton.groups ≡ (None ∷ groups_of_part one.entry ++ groups_of_part other.entry) ∷ []) }
-    ensures refused { IfErr result (FailsToBuild ((None ∷ groups_of_part one.entry ++ groups_of_part other.entry) ∷ [])) }
+    ensures refused { IfErr result (IsErrorWithAnyLimit ((None ∷ groups_of_part one.entry ++ groups_of_part other.entry) ∷ [])) }
 {
     let builder = Builder::new(alloc);
     let both = builder.then(one, other)?;
@@ -325,8 +325,8 @@ pub fn program_of_part<W: WordClass>(
     word_class: W,
     part: Part<'_>,
 ) -> Result<Program<W>, Error>
-    ensures names { OnOk result (¬ (RepeatsName (groups_of_pattern part.entry ∷ []))) }
-    ensures refused { IfErr result (FailsToBuild (groups_of_pattern part.entry ∷ [])) }
+    ensures names { OnOk result (¬ (RepeatsName (groups_as_pattern part.entry ∷ []))) }
+    ensures refused { IfErr result (IsErrorWithAnyLimit (groups_as_pattern part.entry ∷ [])) }
 {
     let program = Builder::new(alloc).build(word_class, true, part)?;
     Ok(program)

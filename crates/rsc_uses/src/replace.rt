@@ -4,9 +4,9 @@ ghost use Rattle.rsc_search.specs.Inputs.{whole};
 ghost use Rattle.rsc_search.specs.Matches.{Matched};
 ghost use Rattle.rsc_engine.specs.declared.error.Error.TheVariants.{OutOfMemory};
 ghost use Rattle.rsc_engine.specs.Searches.{search_in};
-ghost use Rattle.rsc_engine.specs.NextMatches.{AreAll};
-ghost use Rattle.rsc_engine.specs.Parts.{pattern_of, groups_of_pattern};
-ghost use Rattle.rsc_engine.specs.Refusals.{IsErrorOf};
+ghost use Rattle.rsc_engine.specs.NextMatches.{AreAllMatches};
+ghost use Rattle.rsc_engine.specs.Parts.{pattern_of, groups_as_pattern};
+ghost use Rattle.rsc_engine.specs.Refusals.{IsBuildError};
 ghost use Rattle.rsc_engine.specs.Sizes.{most_states};
 ghost use Rattle.rsc_replace.specs.PartReplacements.{IsPartReplaced, subject_of_text};
 ghost use Rattle.rsc_uses.specs.Masked.{masked, IsFirstMasked};
@@ -25,7 +25,7 @@ pub fn mask_all<W: WordClass + AsciiCompatible>(
     text: &[u8],
 ) -> Result<Vec<u8>, Error>
     ensures masked { IfOk result (λ out. (all : List Matched)
-        × AreAll W.word_chars (record { program = program.now; input = whole text.now; last = None }) all
+        × AreAllMatches W.word_chars (record { program = program.now; input = whole text.now; last = None }) all
         × (out.items ≡ masked text.now (0x2A ∷ 0x2A ∷ 0x2A ∷ []) 0 all)) }
     ensures refused { IfErr result (λ e. e ≡ OutOfMemory) }
 {
@@ -56,9 +56,9 @@ pub fn blank_out<W: WordClass + AsciiCompatible>(
     part: Part<'_>,
     text: &[u8],
 ) -> Result<Vec<u8>, Error>
-    ensures replaced { IfOk result (λ out. IsPartReplaced (subject_of_text text.now (W.word_chars word_class))
-        (groups_of_pattern part.entry) (pattern_of part.entry) (0x20 ∷ []) out.items) }
-    ensures refused { IfErr result (IsErrorOf most_states (pattern_of part.entry ∷ []) (groups_of_pattern part.entry ∷ [])) }
+    ensures replaced { IfOk result (λ out. IsPartReplaced (subject_of_text (W.word_chars word_class) text.now)
+        (groups_as_pattern part.entry) (pattern_of part.entry) (0x20 ∷ []) out.items) }
+    ensures refused { IfErr result (IsBuildError most_states (pattern_of part.entry ∷ []) (groups_as_pattern part.entry ∷ [])) }
 {
     let out = replace_part(alloc, word_class, part, text, b" ")?;
     Ok(out)

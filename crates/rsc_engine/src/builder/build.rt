@@ -8,11 +8,11 @@ ghost use Rattle.rsc_engine.specs.Asks.{asks};
 ghost use Rattle.rsc_engine.specs.Patterns.{Recognizes};
 ghost use Rattle.rsc_engine.specs.GroupEnds.{RecordsEnds};
 ghost use Rattle.rsc_engine.specs.GroupOrder.{ClosesGroups};
-ghost use Rattle.rsc_engine.specs.PatternMatches.{IsBuiltOf};
+ghost use Rattle.rsc_engine.specs.PatternMatches.{AnswersAs};
 ghost use Rattle.rsc_engine.specs.PatternOrder.{PrefersLesser, PrefersFirstEnds, RecordsWays, RecordsFirstWays, RecordsPreferredWays};
-ghost use Rattle.rsc_engine.specs.Refusals.{FailsToBuild, IsErrorOf, RepeatsName, are_too_large};
+ghost use Rattle.rsc_engine.specs.Refusals.{IsErrorWithAnyLimit, IsBuildError, RepeatsName, are_too_large};
 ghost use Rattle.rsc_engine.specs.Sizes.{size_of_program};
-ghost use Rattle.rsc_engine.specs.Parts.{pattern_of, patterns_of, groups_of_pattern, lists_of, limit_of};
+ghost use Rattle.rsc_engine.specs.Parts.{pattern_of, patterns_of, groups_as_pattern, group_lists_of, limit_of};
 
 use super::compile::compile;
 use super::names::info_of;
@@ -57,27 +57,28 @@ impl<'n> Builder<'n> {
         last: Part<'n>,
     ) -> Result<Program<W>, Error>
         ensures matches { IfOk result (λ program. Recognizes W.word_chars program (patterns_of self.entry ++ pattern_of last.entry ∷ [])) }
-        ensures groups { IfOk result (λ program. program.automaton.groups ≡ lists_of self.entry ++ groups_of_pattern last.entry ∷ []) }
-        ensures ends { IfOk result (λ program. RecordsEnds W.word_chars program) }
-        ensures prefers { IfOk result (λ program. PrefersLesser W.word_chars program) }
+        ensures groups { IfOk result (λ program. program.automaton.groups ≡ group_lists_of self.entry ++ groups_as_pattern last.entry ∷ []) }
+        ensures records_ends { IfOk result (λ program. RecordsEnds W.word_chars program) }
+        ensures prefers_lesser { IfOk result (λ program. PrefersLesser W.word_chars program) }
         ensures first_ends { IfOk result (λ program. PrefersFirstEnds W.word_chars program (patterns_of self.entry ++ pattern_of last.entry ∷ [])) }
         ensures ways { IfOk result (λ program. RecordsWays W.word_chars program (patterns_of self.entry ++ pattern_of last.entry ∷ [])) }
         ensures first_ways { IfOk result (λ program. RecordsFirstWays W.word_chars program (patterns_of self.entry ++ pattern_of last.entry ∷ [])) }
         ensures preferred_ways { IfOk result (λ program. RecordsPreferredWays W.word_chars program (patterns_of self.entry ++ pattern_of last.entry ∷ [])) }
-        ensures closes { IfOk result (λ program. ClosesGroups W.word_chars program) }
-        ensures built { IfOk result (λ program. IsBuiltOf W.word_chars program (patterns_of self.entry ++ pattern_of last.entry ∷ [])) }
+        ensures closes_groups { IfOk result (λ program. ClosesGroups W.word_chars program) }
+        ensures answers { IfOk result (λ program. AnswersAs W.word_chars program (patterns_of self.entry ++ pattern_of last.entry ∷ [])) }
         ensures utf8 { IfOk result (λ program. program.utf8 ≡ utf8) }
         ensures matcher { IfOk result (λ program. program.automaton.matcher ≡ (10, word_class)) }
-        ensures names_differ { OnOk result (¬ (RepeatsName (lists_of self.entry ++ groups_of_pattern last.entry ∷ []))) }
+        ensures names_differ { OnOk result (¬ (RepeatsName (group_lists_of self.entry ++ groups_as_pattern last.entry ∷ []))) }
         ensures looks { IfOk result (λ program. (look : Look) → list_any (asserts look) program.automaton.states
             ≡ list_any (asks look) (patterns_of self.entry ++ pattern_of last.entry ∷ [])) }
-        ensures size { IfOk result (λ program. (length program.automaton.states ≡ size_of_program (patterns_of self.entry ++ pattern_of last.entry ∷ []))
-            × (length program.automaton.states ≤ limit_of self.entry)) }
-        ensures large { IsTrue (are_too_large (limit_of self.entry) (patterns_of self.entry ++ pattern_of last.entry ∷ [])
-            (lists_of self.entry ++ groups_of_pattern last.entry ∷ [])) → result ≡ Err TooLarge }
-        ensures refused { IfErr result (IsErrorOf (limit_of self.entry) (patterns_of self.entry ++ pattern_of last.entry ∷ [])
-            (lists_of self.entry ++ groups_of_pattern last.entry ∷ [])) }
-        ensures fails { IfErr result (FailsToBuild (lists_of self.entry ++ groups_of_pattern last.entry ∷ [])) }
+        ensures count { IfOk result (λ program.
+            length program.automaton.states ≡ size_of_program (patterns_of self.entry ++ pattern_of last.entry ∷ [])) }
+        ensures most { IfOk result (λ program. length program.automaton.states ≤ limit_of self.entry) }
+        ensures too_large { IsTrue (are_too_large (limit_of self.entry) (patterns_of self.entry ++ pattern_of last.entry ∷ [])
+            (group_lists_of self.entry ++ groups_as_pattern last.entry ∷ [])) → result ≡ Err TooLarge }
+        ensures refused { IfErr result (IsBuildError (limit_of self.entry) (patterns_of self.entry ++ pattern_of last.entry ∷ [])
+            (group_lists_of self.entry ++ groups_as_pattern last.entry ∷ [])) }
+        ensures fails { IfErr result (IsErrorWithAnyLimit (group_lists_of self.entry ++ groups_as_pattern last.entry ∷ [])) }
     {
         self.build_with(LookMatcher::new(word_class), utf8, last)
     }
@@ -95,27 +96,28 @@ impl<'n> Builder<'n> {
         last: Part<'n>,
     ) -> Result<Program<W>, Error>
         ensures matches { IfOk result (λ program. Recognizes W.word_chars program (patterns_of self.entry ++ pattern_of last.entry ∷ [])) }
-        ensures groups { IfOk result (λ program. program.automaton.groups ≡ lists_of self.entry ++ groups_of_pattern last.entry ∷ []) }
-        ensures ends { IfOk result (λ program. RecordsEnds W.word_chars program) }
-        ensures prefers { IfOk result (λ program. PrefersLesser W.word_chars program) }
+        ensures groups { IfOk result (λ program. program.automaton.groups ≡ group_lists_of self.entry ++ groups_as_pattern last.entry ∷ []) }
+        ensures records_ends { IfOk result (λ program. RecordsEnds W.word_chars program) }
+        ensures prefers_lesser { IfOk result (λ program. PrefersLesser W.word_chars program) }
         ensures first_ends { IfOk result (λ program. PrefersFirstEnds W.word_chars program (patterns_of self.entry ++ pattern_of last.entry ∷ [])) }
         ensures ways { IfOk result (λ program. RecordsWays W.word_chars program (patterns_of self.entry ++ pattern_of last.entry ∷ [])) }
         ensures first_ways { IfOk result (λ program. RecordsFirstWays W.word_chars program (patterns_of self.entry ++ pattern_of last.entry ∷ [])) }
         ensures preferred_ways { IfOk result (λ program. RecordsPreferredWays W.word_chars program (patterns_of self.entry ++ pattern_of last.entry ∷ [])) }
-        ensures closes { IfOk result (λ program. ClosesGroups W.word_chars program) }
-        ensures built { IfOk result (λ program. IsBuiltOf W.word_chars program (patterns_of self.entry ++ pattern_of last.entry ∷ [])) }
+        ensures closes_groups { IfOk result (λ program. ClosesGroups W.word_chars program) }
+        ensures answers { IfOk result (λ program. AnswersAs W.word_chars program (patterns_of self.entry ++ pattern_of last.entry ∷ [])) }
         ensures utf8 { IfOk result (λ program. program.utf8 ≡ utf8) }
         ensures matcher { IfOk result (λ program. program.automaton.matcher ≡ matcher) }
-        ensures names_differ { OnOk result (¬ (RepeatsName (lists_of self.entry ++ groups_of_pattern last.entry ∷ []))) }
+        ensures names_differ { OnOk result (¬ (RepeatsName (group_lists_of self.entry ++ groups_as_pattern last.entry ∷ []))) }
         ensures looks { IfOk result (λ program. (look : Look) → list_any (asserts look) program.automaton.states
             ≡ list_any (asks look) (patterns_of self.entry ++ pattern_of last.entry ∷ [])) }
-        ensures size { IfOk result (λ program. (length program.automaton.states ≡ size_of_program (patterns_of self.entry ++ pattern_of last.entry ∷ []))
-            × (length program.automaton.states ≤ limit_of self.entry)) }
-        ensures large { IsTrue (are_too_large (limit_of self.entry) (patterns_of self.entry ++ pattern_of last.entry ∷ [])
-            (lists_of self.entry ++ groups_of_pattern last.entry ∷ [])) → result ≡ Err TooLarge }
-        ensures refused { IfErr result (IsErrorOf (limit_of self.entry) (patterns_of self.entry ++ pattern_of last.entry ∷ [])
-            (lists_of self.entry ++ groups_of_pattern last.entry ∷ [])) }
-        ensures fails { IfErr result (FailsToBuild (lists_of self.entry ++ groups_of_pattern last.entry ∷ [])) }
+        ensures count { IfOk result (λ program.
+            length program.automaton.states ≡ size_of_program (patterns_of self.entry ++ pattern_of last.entry ∷ [])) }
+        ensures most { IfOk result (λ program. length program.automaton.states ≤ limit_of self.entry) }
+        ensures too_large { IsTrue (are_too_large (limit_of self.entry) (patterns_of self.entry ++ pattern_of last.entry ∷ [])
+            (group_lists_of self.entry ++ groups_as_pattern last.entry ∷ [])) → result ≡ Err TooLarge }
+        ensures refused { IfErr result (IsBuildError (limit_of self.entry) (patterns_of self.entry ++ pattern_of last.entry ∷ [])
+            (group_lists_of self.entry ++ groups_as_pattern last.entry ∷ [])) }
+        ensures fails { IfErr result (IsErrorWithAnyLimit (group_lists_of self.entry ++ groups_as_pattern last.entry ∷ [])) }
     {
         if are_too_large(self.limit, self.patterns.as_slice(), &last) {
             return Err(Error::TooLarge);

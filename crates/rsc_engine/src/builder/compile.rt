@@ -1,13 +1,13 @@
 //! From parts to states. The walk goes from the end of a pattern to its start, so that what comes after a part has its state first.
 ghost use Rattle.std.specs.Prelude.{◌≡◌, ℕ, ◌+◌, ◌*◌, ◌<◌, ◌≤◌, ◌++◌, [], ◌∷◌, map, length, IfOk, OnOk};
 ghost use Rattle.rsc_primitives.specs.Indices.{IsIndex};
-ghost use Rattle.rsc_captures.specs.Groups.{all_groups, group_count, slot_number};
+ghost use Rattle.rsc_captures.specs.Groups.{all_group_count, group_count, slot_number};
 ghost use Rattle.rsc_nfa.specs.declared.state.State.TheVariants.{Fork};
-ghost use Rattle.rsc_engine.specs.Patterns.{Never, Class, Literal, Group, in_order, one_of};
-ghost use Rattle.rsc_engine.specs.Parts.{pattern_of, groups_of_pattern};
+ghost use Rattle.rsc_engine.specs.Patterns.{Never, Class, Literal, Group, sequence, one_of};
+ghost use Rattle.rsc_engine.specs.Parts.{pattern_of, groups_as_pattern};
 ghost use Rattle.rsc_engine.specs.Trees.{pattern_in};
 ghost use Rattle.rsc_engine.specs.Sizes.{size_of, size_of_program, most_states};
-ghost use Rattle.rsc_engine.specs.GroupNumbers.{count_groups};
+ghost use Rattle.rsc_engine.specs.GroupNumbers.{group_count_in};
 ghost use Rattle.rsc_engine.specs.LinksLayout.{Adds, Builds, BuildsPart, IsAdded, slots_between};
 ghost use Rattle.rsc_engine.specs.BeginsLayout.{Begins, IsOfOne, IsOfSome};
 ghost use Rattle.rsc_engine.specs.FirstsLayout.{OrdersOne, OrdersSome};
@@ -55,7 +55,7 @@ impl Slots<'_> {
         requires { group < group_count self.now.info.now self.now.pattern }
         ensures start { result.0 ≡ slot_number self.now.info.now self.now.pattern group }
         ensures end { result.1 ≡ result.0 + 1 }
-        ensures within { result.1 < 2 * all_groups self.now.info.now }
+        ensures within { result.1 < 2 * all_group_count self.now.info.now }
     {
         // So that slots are known to be indices.
         let _limit = self.info.slot_len();
@@ -71,7 +71,7 @@ pub(crate) fn compile(
     patterns: &[Part<'_>],
 ) -> Result<(Vec<State>, StateID), AllocError>
     requires some { 0 < length patterns.now }
-    requires groups { info.now ≡ map groups_of_pattern patterns.now }
+    requires groups { info.now ≡ map groups_as_pattern patterns.now }
     requires room { size_of_program (map pattern_of patterns.now) ≤ most_states }
     ensures made { IfOk result (λ made. Begins made.0.items made.1 (IsOfSome 0 (map pattern_of patterns.now))
         × AreSoundIn info.now (some_ask (map pattern_of patterns.now)) [] made.0.items made.1 made.0.items
@@ -106,7 +106,7 @@ impl Compiler {
         whole: &Part<'_>,
     ) -> Result<StateID, AllocError>
         requires number { IsIndex index }
-        requires groups { group_count info.now index ≡ count_groups (pattern_of whole.now) + 1 }
+        requires groups { group_count info.now index ≡ group_count_in (pattern_of whole.now) + 1 }
         requires room { length self.old.list.states.items + size_of (pattern_of whole.now) + 3 ≤ most_states }
         ensures made { IfOk result (λ first. Adds self.old.list.states.items self.new.list.states.items
             (λ states. Begins states first (IsOfOne index (pattern_of whole.now)) × (index < length info.now →
@@ -139,7 +139,7 @@ impl Compiler {
         next: StateID,
     ) -> Result<StateID, AllocError>
         requires room { length self.old.list.states.items + size_of (pattern_in tree.now) ≤ most_states }
-        requires unnumbered { count_groups (pattern_in tree.now) < self.old.unnumbered }
+        requires unnumbered { group_count_in (pattern_in tree.now) < self.old.unnumbered }
         requires groups { self.old.unnumbered ≤ group_count slots.now.info.now slots.now.pattern }
         ensures { IfOk result (λ first. BuildsPart (slot_number slots.now.info.now slots.now.pattern) (slots_between slots.now.info.now slots.now.pattern)
             self.old.unnumbered self.new.unnumbered self.old.list.states.items self.new.list.states.items first next (pattern_in tree.now)) }
@@ -174,11 +174,11 @@ impl Compiler {
         parts: &[Tree],
         next: StateID,
     ) -> Result<StateID, AllocError>
-        requires room { length self.old.list.states.items + size_of (in_order (map pattern_in parts.now)) ≤ most_states }
-        requires unnumbered { count_groups (in_order (map pattern_in parts.now)) < self.old.unnumbered }
+        requires room { length self.old.list.states.items + size_of (sequence (map pattern_in parts.now)) ≤ most_states }
+        requires unnumbered { group_count_in (sequence (map pattern_in parts.now)) < self.old.unnumbered }
         requires groups { self.old.unnumbered ≤ group_count slots.now.info.now slots.now.pattern }
         ensures { IfOk result (λ first. BuildsPart (slot_number slots.now.info.now slots.now.pattern) (slots_between slots.now.info.now slots.now.pattern)
-            self.old.unnumbered self.new.unnumbered self.old.list.states.items self.new.list.states.items first next (in_order (map pattern_in parts.now))) }
+            self.old.unnumbered self.new.unnumbered self.old.list.states.items self.new.list.states.items first next (sequence (map pattern_in parts.now))) }
     {
         let mut first = next;
         for index in (0..parts.len()).rev() {
@@ -195,7 +195,7 @@ impl Compiler {
         next: StateID,
     ) -> Result<StateID, AllocError>
         requires room { length self.old.list.states.items + size_of (one_of (map pattern_in parts.now)) ≤ most_states }
-        requires unnumbered { count_groups (one_of (map pattern_in parts.now)) < self.old.unnumbered }
+        requires unnumbered { group_count_in (one_of (map pattern_in parts.now)) < self.old.unnumbered }
         requires groups { self.old.unnumbered ≤ group_count slots.now.info.now slots.now.pattern }
         ensures { IfOk result (λ first. BuildsPart (slot_number slots.now.info.now slots.now.pattern) (slots_between slots.now.info.now slots.now.pattern)
             self.old.unnumbered self.new.unnumbered self.old.list.states.items self.new.list.states.items first next (one_of (map pattern_in parts.now))) }
@@ -216,7 +216,7 @@ impl Compiler {
     #[cycle(part)]
     fn group(&mut self, slots: &Slots<'_>, sub: &Tree, next: StateID) -> Result<StateID, AllocError>
         requires room { length self.old.list.states.items + size_of (Group 0 (pattern_in sub.now)) ≤ most_states }
-        requires unnumbered { count_groups (Group 0 (pattern_in sub.now)) < self.old.unnumbered }
+        requires unnumbered { group_count_in (Group 0 (pattern_in sub.now)) < self.old.unnumbered }
         requires groups { self.old.unnumbered ≤ group_count slots.now.info.now slots.now.pattern }
         ensures { IfOk result (λ first. BuildsPart (slot_number slots.now.info.now slots.now.pattern) (slots_between slots.now.info.now slots.now.pattern)
             self.old.unnumbered self.new.unnumbered self.old.list.states.items self.new.list.states.items first next (Group 0 (pattern_in sub.now))) }

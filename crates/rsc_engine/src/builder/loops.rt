@@ -2,8 +2,8 @@
 ghost use Rattle.std.specs.Prelude.{◌≡◌, ◌+◌, ◌-◌, ◌<◌, ◌≤◌, None, Some, false, map, length, IfOk};
 ghost use Rattle.rsc_captures.specs.Groups.{group_count, slot_number};
 ghost use Rattle.rsc_engine.specs.Patterns as patterns;
-ghost use Rattle.rsc_engine.specs.Patterns.{Repeat, in_order};
-ghost use Rattle.rsc_engine.specs.GroupNumbers.{count_groups};
+ghost use Rattle.rsc_engine.specs.Patterns.{Repeat, sequence};
+ghost use Rattle.rsc_engine.specs.GroupNumbers.{group_count_in};
 ghost use Rattle.rsc_engine.specs.Trees.{pattern_in};
 ghost use Rattle.rsc_engine.specs.Sizes.{size_of, most_states};
 ghost use Rattle.rsc_engine.specs.LinksLayout.{BuildsPart, BuildsCopies, choice_of, copies, up_to, slots_between};
@@ -25,7 +25,7 @@ impl Compiler {
         next: StateID,
     ) -> Result<StateID, AllocError>
         requires room { length self.old.list.states.items + size_of (Repeat times.min times.max times.is_greedy (pattern_in sub.now)) ≤ most_states }
-        requires unnumbered { count_groups (pattern_in sub.now) < self.old.unnumbered }
+        requires unnumbered { group_count_in (pattern_in sub.now) < self.old.unnumbered }
         requires groups { self.old.unnumbered ≤ group_count slots.now.info.now slots.now.pattern }
         ensures { IfOk result (λ first. BuildsPart (slot_number slots.now.info.now slots.now.pattern) (slots_between slots.now.info.now slots.now.pattern)
             self.old.unnumbered self.new.unnumbered self.old.list.states.items self.new.list.states.items first next
@@ -47,7 +47,7 @@ impl Compiler {
         next: StateID,
     ) -> Result<StateID, AllocError>
         requires room { length self.old.list.states.items + size_of (Repeat times.min None times.is_greedy (pattern_in sub.now)) ≤ most_states }
-        requires unnumbered { count_groups (pattern_in sub.now) < self.old.unnumbered }
+        requires unnumbered { group_count_in (pattern_in sub.now) < self.old.unnumbered }
         requires groups { self.old.unnumbered ≤ group_count slots.now.info.now slots.now.pattern }
         ensures { IfOk result (λ first. BuildsPart (slot_number slots.now.info.now slots.now.pattern) (slots_between slots.now.info.now slots.now.pattern)
             self.old.unnumbered self.new.unnumbered self.old.list.states.items self.new.list.states.items first next
@@ -76,7 +76,7 @@ impl Compiler {
         next: StateID,
     ) -> Result<StateID, AllocError>
         requires room { length self.old.list.states.items + size_of (Repeat times.min (Some max) times.is_greedy (pattern_in sub.now)) ≤ most_states }
-        requires unnumbered { count_groups (pattern_in sub.now) < self.old.unnumbered }
+        requires unnumbered { group_count_in (pattern_in sub.now) < self.old.unnumbered }
         requires groups { self.old.unnumbered ≤ group_count slots.now.info.now slots.now.pattern }
         ensures { IfOk result (λ first. BuildsPart (slot_number slots.now.info.now slots.now.pattern) (slots_between slots.now.info.now slots.now.pattern)
             self.old.unnumbered self.new.unnumbered self.old.list.states.items self.new.list.states.items first next
@@ -97,7 +97,7 @@ impl Compiler {
 
     // The part no times: it has no states, but its groups have their numbers.
     fn no_times(&mut self, slots: &Slots<'_>, times: Times, sub: &Tree, next: StateID) -> StateID
-        requires { count_groups (pattern_in sub.now) < self.old.unnumbered }
+        requires { group_count_in (pattern_in sub.now) < self.old.unnumbered }
         ensures { BuildsPart (slot_number slots.now.info.now slots.now.pattern) (slots_between slots.now.info.now slots.now.pattern)
             self.old.unnumbered self.new.unnumbered self.old.list.states.items self.new.list.states.items result next
             (Repeat 0 (Some 0) times.is_greedy (pattern_in sub.now)) }
@@ -116,7 +116,7 @@ impl Compiler {
         next: StateID,
     ) -> Result<StateID, AllocError>
         requires room { length self.old.list.states.items + size_of (copies count (pattern_in sub.now)) ≤ most_states }
-        requires unnumbered { count_groups (pattern_in sub.now) < self.old.unnumbered }
+        requires unnumbered { group_count_in (pattern_in sub.now) < self.old.unnumbered }
         requires groups { self.old.unnumbered ≤ group_count slots.now.info.now slots.now.pattern }
         ensures { IfOk result (λ first. BuildsCopies (slot_number slots.now.info.now slots.now.pattern) (slots_between slots.now.info.now slots.now.pattern)
             self.old.unnumbered self.new.unnumbered self.old.list.states.items self.new.list.states.items
@@ -143,7 +143,7 @@ impl Compiler {
         next: StateID,
     ) -> Result<StateID, AllocError>
         requires room { length self.old.list.states.items + size_of (up_to is_greedy count (pattern_in sub.now)) ≤ most_states }
-        requires unnumbered { count_groups (pattern_in sub.now) < self.old.unnumbered }
+        requires unnumbered { group_count_in (pattern_in sub.now) < self.old.unnumbered }
         requires groups { self.old.unnumbered ≤ group_count slots.now.info.now slots.now.pattern }
         ensures { IfOk result (λ first. BuildsCopies (slot_number slots.now.info.now slots.now.pattern) (slots_between slots.now.info.now slots.now.pattern)
             self.old.unnumbered self.new.unnumbered self.old.list.states.items self.new.list.states.items first next count (up_to is_greedy count)
@@ -169,7 +169,7 @@ impl Compiler {
         next: StateID,
     ) -> Result<StateID, AllocError>
         requires room { length self.old.list.states.items + size_of (Repeat 0 None times.is_greedy (pattern_in sub.now)) ≤ most_states }
-        requires unnumbered { count_groups (pattern_in sub.now) < self.old.unnumbered }
+        requires unnumbered { group_count_in (pattern_in sub.now) < self.old.unnumbered }
         requires groups { self.old.unnumbered ≤ group_count slots.now.info.now slots.now.pattern }
         ensures { IfOk result (λ first. BuildsPart (slot_number slots.now.info.now slots.now.pattern) (slots_between slots.now.info.now slots.now.pattern)
             self.old.unnumbered self.new.unnumbered self.old.list.states.items self.new.list.states.items first next
@@ -193,7 +193,7 @@ impl Compiler {
         next: StateID,
     ) -> Result<(StateID, StateID), AllocError>
         requires room { length self.old.list.states.items + size_of (Repeat 1 None is_greedy (pattern_in sub.now)) ≤ most_states }
-        requires unnumbered { count_groups (pattern_in sub.now) < self.old.unnumbered }
+        requires unnumbered { group_count_in (pattern_in sub.now) < self.old.unnumbered }
         requires groups { self.old.unnumbered ≤ group_count slots.now.info.now slots.now.pattern }
         ensures first { IfOk result (λ made. BuildsPart (slot_number slots.now.info.now slots.now.pattern) (slots_between slots.now.info.now slots.now.pattern)
             self.old.unnumbered self.new.unnumbered self.old.list.states.items self.new.list.states.items
@@ -225,7 +225,7 @@ fn choice(is_greedy: bool, part: StateID, next: StateID) -> State
 // How many of the pattern's groups are left to number once those of the part are.
 #[cycle(groups_left)]
 fn groups_left(tree: &Tree, left: usize) -> usize
-    ensures { result ≡ left - count_groups (pattern_in tree.now) }
+    ensures { result ≡ left - group_count_in (pattern_in tree.now) }
 {
     match tree {
         Tree::Empty => left,
@@ -245,7 +245,7 @@ fn groups_left(tree: &Tree, left: usize) -> usize
 
 #[cycle(groups_left)]
 fn groups_left_by_all(parts: &[Tree], left: usize) -> usize
-    ensures { result ≡ left - count_groups (in_order (map pattern_in parts.now)) }
+    ensures { result ≡ left - group_count_in (sequence (map pattern_in parts.now)) }
 {
     let mut now = left;
     for index in (0..parts.len()).rev() {

@@ -1,10 +1,10 @@
 //! The names of groups.
 ghost use Rattle.std.specs.Prelude.{◌≡◌, ◌*◌, ◌≤◌, ◌⊎◌, ◌++◌, map, IfOk, IfErr, OnOk};
 ghost use Rattle.rsc_primitives.specs.Indices.{max_index};
-ghost use Rattle.rsc_captures.specs.Groups.{all_groups};
+ghost use Rattle.rsc_captures.specs.Groups.{all_group_count};
 ghost use Rattle.rsc_engine.specs.declared.error.Error.TheVariants.{OutOfMemory, RepeatedName};
 ghost use Rattle.rsc_engine.specs.Refusals.{RepeatsName, error_of};
-ghost use Rattle.rsc_engine.specs.Parts.{groups_of_pattern};
+ghost use Rattle.rsc_engine.specs.Parts.{groups_as_pattern};
 
 use super::Part;
 use crate::Error;
@@ -25,10 +25,10 @@ pub(crate) fn joined<'n>(
 
 /// The groups of all patterns: of each that of the whole match, which has no name, and then its own.
 pub(crate) fn info_of(alloc: Global, patterns: &[Part<'_>]) -> Result<GroupInfo, Error>
-    requires { 2 * all_groups (map groups_of_pattern patterns.now) ≤ max_index }
-    ensures groups { IfOk result (λ info. info ≡ map groups_of_pattern patterns.now) }
-    ensures names_differ { OnOk result (¬ (RepeatsName (map groups_of_pattern patterns.now))) }
-    ensures refused { IfErr result (λ e. (e ≡ OutOfMemory) ⊎ ((e ≡ RepeatedName) × RepeatsName (map groups_of_pattern patterns.now))) }
+    requires { 2 * all_group_count (map groups_as_pattern patterns.now) ≤ max_index }
+    ensures groups { IfOk result (λ info. info ≡ map groups_as_pattern patterns.now) }
+    ensures names_differ { OnOk result (¬ (RepeatsName (map groups_as_pattern patterns.now))) }
+    ensures refused { IfErr result (λ e. (e ≡ OutOfMemory) ⊎ ((e ≡ RepeatedName) × RepeatsName (map groups_as_pattern patterns.now))) }
 {
     let mut all = Vec::new(alloc);
     for part in patterns {

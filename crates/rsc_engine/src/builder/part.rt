@@ -1,6 +1,6 @@
 //! Parts of patterns, and what they know of the patterns that they are.
 ghost use Rattle.std.specs.Prelude.{◌≡◌, length};
-ghost use Rattle.rsc_engine.specs.GroupNumbers.{count_groups};
+ghost use Rattle.rsc_engine.specs.GroupNumbers.{group_count_in};
 ghost use Rattle.rsc_engine.specs.Patterns as patterns;
 ghost use Rattle.rsc_engine.specs.FirstEnds as ends;
 ghost use Rattle.rsc_engine.specs.Trees.{pattern_in};
@@ -28,7 +28,7 @@ pub struct Part<'n> {
     pub(super) may_be_empty: bool,
     // Whether no loop in it repeats a part that may match no byte.
     pub(super) loops_take_bytes: bool,
-    ghost groups: { length names.items ≡ count_groups (pattern_in tree) },
+    ghost groups: { length names.items ≡ group_count_in (pattern_in tree) },
     ghost emptiness: { may_be_empty ≡ patterns.may_be_empty (pattern_in tree) },
     ghost loops: { loops_take_bytes ≡ ends.loops_take_bytes (pattern_in tree) },
 }
@@ -68,7 +68,7 @@ impl<'n> Part<'n> {
     pub(super) fn into_tree_and_names(self) -> (Tree, Vec<Option<&'n str>>)
         ensures tree { result.0 ≡ self.entry.tree }
         ensures names { result.1 ≡ self.entry.names }
-        ensures groups { length result.1.items ≡ count_groups (pattern_in result.0) }
+        ensures groups { length result.1.items ≡ group_count_in (pattern_in result.0) }
     {
         let Part {
             tree,

@@ -1,9 +1,9 @@
 //! How many states a part will have, before they are made.
 ghost use Rattle.std.specs.Prelude.{◌≡◌, ◌++◌, ◌∷◌, [], min, map};
-ghost use Rattle.rsc_engine.specs.Patterns.{Repeat, in_order, one_of};
+ghost use Rattle.rsc_engine.specs.Patterns.{Repeat, sequence, one_of};
 ghost use Rattle.rsc_engine.specs.Trees.{pattern_in};
 ghost use Rattle.rsc_engine.specs.Sizes.{size_of, most_states};
-ghost use Rattle.rsc_engine.specs.Parts.{pattern_of, groups_of_pattern};
+ghost use Rattle.rsc_engine.specs.Parts.{pattern_of, groups_as_pattern};
 ghost use Rattle.rsc_engine.specs.Refusals.{are_too_large};
 
 use super::Part;
@@ -13,7 +13,7 @@ use rsc_primitives::{SmallIndex, StateID};
 /// Whether the patterns and a last one will have more states than the limit, or more groups than there are slots for.
 pub(crate) fn are_too_large(limit: usize, patterns: &[Part<'_>], last: &Part<'_>) -> bool
     ensures { result ≡ are_too_large (min limit most_states) (map pattern_of patterns.now ++ pattern_of last.now ∷ [])
-        (map groups_of_pattern patterns.now ++ groups_of_pattern last.now ∷ []) }
+        (map groups_as_pattern patterns.now ++ groups_as_pattern last.now ∷ []) }
 {
     // Besides those of its part a pattern has three states, with a choice before the next pattern four.
     let mut states = size(&last.tree).saturating_add(3);
@@ -54,7 +54,7 @@ pub(crate) fn size(tree: &Tree) -> usize
 // Of all parts.
 #[cycle(size)]
 fn size_of_all(parts: &[Tree]) -> usize
-    ensures { result ≡ min (size_of (in_order (map pattern_in parts.now))) usize.MAX }
+    ensures { result ≡ min (size_of (sequence (map pattern_in parts.now))) usize.MAX }
 {
     let mut all = 0usize;
     for index in (0..parts.len()).rev() {

@@ -1,7 +1,7 @@
 //! Parts of patterns as trees.
 ghost use Rattle.std.specs.Prelude.{◌≡◌, map};
 ghost use Rattle.rsc_engine.specs.Patterns as patterns;
-ghost use Rattle.rsc_engine.specs.Patterns.{in_order, one_of};
+ghost use Rattle.rsc_engine.specs.Patterns.{sequence, one_of};
 ghost use Rattle.rsc_engine.specs.Trees.{pattern_in};
 
 use rsc_look::Look;
@@ -72,7 +72,7 @@ pub(crate) fn may_be_empty(tree: &Tree) -> bool
 // Whether all may match no byte.
 #[cycle(may_be_empty)]
 fn all_may_be_empty(parts: &[Tree]) -> bool
-    ensures { result ≡ patterns.may_be_empty (in_order (map pattern_in parts.now)) }
+    ensures { result ≡ patterns.may_be_empty (sequence (map pattern_in parts.now)) }
 {
     let mut all = true;
     for index in (0..parts.len()).rev() {

@@ -1,7 +1,7 @@
 //! What the bytes on both sides of a position make of an ordered list of states.
 ghost use Rattle.std.specs.Prelude.{◌≡◌, ◌+◌, ◌*◌, ◌<◌, ◌≤◌, ◌⊎◌, ℕ, true, false, not, IfOk, IfErr, IfSome, OnOk, length, count_by, reverse, Some, None};
-ghost use Rattle.rsc_search.specs.Modes.{pattern_of_mode};
-ghost use Rattle.rsc_engine.specs.Runs.{is_wanted};
+ghost use Rattle.rsc_search.specs.Modes.{only_pattern};
+ghost use Rattle.rsc_engine.specs.Runs.{is_allowed};
 ghost use Rattle.rsc_engine.specs.Searches.{search_in};
 ghost use Rattle.std.specs.List.{Contains};
 ghost use Rattle.rsc_engine.specs.RowsLayout.{Gathers, AddsOne, AreStates};
@@ -69,7 +69,7 @@ pub(crate) fn action_of<W: WordClass>(
         State::Fork { a, b } => Action::Two(a, b),
         State::Capture { next, .. } => Action::One(next),
         State::Accept { pattern } => {
-            if is_wanted(input, pattern) {
+            if is_allowed(input, pattern) {
                 Action::Match(pattern)
             } else {
                 Action::Stuck
@@ -79,8 +79,8 @@ pub(crate) fn action_of<W: WordClass>(
 }
 
 // Whether the pattern may match.
-fn is_wanted(input: &Input<'_>, pattern: PatternID) -> bool
-    ensures { result ≡ is_wanted (pattern_of_mode input.now.anchored) pattern }
+fn is_allowed(input: &Input<'_>, pattern: PatternID) -> bool
+    ensures { result ≡ is_allowed (only_pattern input.now.anchored) pattern }
 {
     match input.get_anchored().pattern() {
         None => true,
@@ -172,11 +172,14 @@ pub(crate) fn advance<W: WordClass>(
     if found.is_some() || !begins {
         return Ok((found, false, next));
     }
-    Ok((None, true, with_start(program, next)?))
+    Ok((None, true, with_start_state(program, next)?))
 }
 
 // The list with the start state last, unless it is there.
-fn with_start<W: WordClass>(program: &Program<W>, list: Vec<StateID>) -> Result<Vec<StateID>, Error>
+fn with_start_state<W: WordClass>(
+    program: &Program<W>,
+    list: Vec<StateID>,
+) -> Result<Vec<StateID>, Error>
     requires { AreStates (length program.now.automaton.states) list.items }
     ensures adds { IfOk result (λ next. AddsOne list.items program.now.start next.items) }
     ensures states { IfOk result (λ next. AreStates (length program.now.automaton.states) next.items) }

@@ -61,7 +61,7 @@ pub(crate) fn is_marked(marks: &Vec<bool>, sid: StateID) -> bool
     index < marks.len() && marks[index]
 }
 
-// Marks the matches, and the states from which steps with no byte lead to marked ones.
+// Marks the accepting states, and those from which steps with no byte lead to marked ones.
 fn close<W: WordClass>(program: &Program<W>, input: &Input<'_>, at: usize, marks: &mut Vec<bool>)
     requires numbered { length program.now.automaton.states ≤ max_index }
     requires start { input.now.span.start ≤ at }
@@ -78,7 +78,7 @@ fn close<W: WordClass>(program: &Program<W>, input: &Input<'_>, at: usize, marks
     }
 }
 
-// Marks the matches, and the states from which one step with no byte leads to a marked one, in one pass over all of them. Whether it marked any.
+// Marks the accepting states, and those from which one step with no byte leads to a marked one, in one pass over all of them. Whether it marked any.
 fn grow<W: WordClass>(
     program: &Program<W>,
     input: &Input<'_>,
@@ -107,7 +107,7 @@ fn grow<W: WordClass>(
     grew
 }
 
-// Whether the state isn't marked, and is a match, or a step with no byte leads from it to a marked one.
+// Whether the state isn't marked, and accepts, or a step with no byte leads from it to a marked one.
 fn is_due<W: WordClass>(
     program: &Program<W>,
     input: &Input<'_>,

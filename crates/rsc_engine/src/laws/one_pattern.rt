@@ -8,8 +8,8 @@ ghost use Rattle.rsc_engine.specs.Searches.{Compiled, search_in};
 ghost use Rattle.rsc_engine.specs.Patterns.{Pattern, may_be_empty};
 ghost use Rattle.rsc_engine.specs.Preferred.{IsFirstMatch, HasNoFirstMatch};
 ghost use Rattle.rsc_engine.specs.NextMatches.{IsNextMatch, IsOver};
-ghost use Rattle.rsc_engine.specs.PatternMatches.{IsBuiltOf};
-ghost use Rattle.rsc_engine.specs.OnePattern.{subject_in, IsMatchOfOne, GoesNowhereTo, GoesNowhereIn, IsNextOfOne, IsOverOfOne};
+ghost use Rattle.rsc_engine.specs.PatternMatches.{AnswersAs};
+ghost use Rattle.rsc_engine.specs.OnePattern.{subject_in, IsMatchOfOne, GoesNowhereBefore, GoesNowhereIn, IsNextOfOne, IsOverOfOne};
 
 use rsc_look::WordClass;
 
@@ -22,26 +22,26 @@ use rsc_look::WordClass;
 /// character. The next match isn't left out.
 pub fn a_match_of_one_pattern<W: WordClass>()
     ensures first { (program : Compiled W) (p : Pattern) (groups : Groups) (matcher : ℕ × W) (input : InputParts) (captures : Captured) (found : Matched) →
-        IsBuiltOf W.word_chars program (p ∷ []) → program.automaton.groups ≡ groups ∷ [] → program.automaton.matcher ≡ matcher →
+        AnswersAs W.word_chars program (p ∷ []) → program.automaton.groups ≡ groups ∷ [] → program.automaton.matcher ≡ matcher →
         IsFirstMatch (search_in W.word_chars program input) captures found →
         IsMatchOfOne (subject_in W.word_chars input.haystack matcher) p groups input captures found
-        × GoesNowhereTo (subject_in W.word_chars input.haystack matcher) p input found.span.start }
-    ensures none { (program : Compiled W) (p : Pattern) (matcher : ℕ × W) (input : InputParts) → IsBuiltOf W.word_chars program (p ∷ []) →
+        × GoesNowhereBefore (subject_in W.word_chars input.haystack matcher) p input found.span.start }
+    ensures none { (program : Compiled W) (p : Pattern) (matcher : ℕ × W) (input : InputParts) → AnswersAs W.word_chars program (p ∷ []) →
         program.automaton.matcher ≡ matcher → HasNoFirstMatch (search_in W.word_chars program input) →
         GoesNowhereIn (subject_in W.word_chars input.haystack matcher) p input }
     ensures next { (program : Compiled W) (p : Pattern) (groups : Groups) (matcher : ℕ × W) (input : InputParts) (last : Option ℕ) (captures : Captured)
-        (found : Matched) → IsBuiltOf W.word_chars program (p ∷ []) → program.automaton.groups ≡ groups ∷ [] → program.automaton.matcher ≡ matcher →
+        (found : Matched) → AnswersAs W.word_chars program (p ∷ []) → program.automaton.groups ≡ groups ∷ [] → program.automaton.matcher ≡ matcher →
         IsNextMatch (search_in W.word_chars program input) last captures found →
         IsMatchOfOne (subject_in W.word_chars input.haystack matcher) p groups input captures found
-        × (may_be_empty p ≡ false → GoesNowhereTo (subject_in W.word_chars input.haystack matcher) p input found.span.start) }
+        × (may_be_empty p ≡ false → GoesNowhereBefore (subject_in W.word_chars input.haystack matcher) p input found.span.start) }
     ensures over { (program : Compiled W) (p : Pattern) (matcher : ℕ × W) (input : InputParts) (last : Option ℕ) →
-        IsBuiltOf W.word_chars program (p ∷ []) → program.automaton.matcher ≡ matcher → IsOver (search_in W.word_chars program input) last →
+        AnswersAs W.word_chars program (p ∷ []) → program.automaton.matcher ≡ matcher → IsOver (search_in W.word_chars program input) last →
         may_be_empty p ≡ false → GoesNowhereIn (subject_in W.word_chars input.haystack matcher) p input }
-    ensures taken { (program : Compiled W) (p : Pattern) (groups : Groups) (matcher : ℕ × W) (utf8 : Bool) (input : InputParts) (last : Option ℕ)
-        (captures : Captured) (found : Matched) → IsBuiltOf W.word_chars program (p ∷ []) → program.automaton.groups ≡ groups ∷ [] →
+    ensures next_of_one { (program : Compiled W) (p : Pattern) (groups : Groups) (matcher : ℕ × W) (utf8 : Bool) (input : InputParts) (last : Option ℕ)
+        (captures : Captured) (found : Matched) → AnswersAs W.word_chars program (p ∷ []) → program.automaton.groups ≡ groups ∷ [] →
         program.automaton.matcher ≡ matcher → program.utf8 ≡ utf8 → IsNextMatch (search_in W.word_chars program input) last captures found →
         IsNextOfOne (subject_in W.word_chars input.haystack matcher) p groups utf8 input last found.span }
-    ensures left_out { (program : Compiled W) (p : Pattern) (groups : Groups) (matcher : ℕ × W) (utf8 : Bool) (input : InputParts) (last : Option ℕ) →
-        IsBuiltOf W.word_chars program (p ∷ []) → program.automaton.groups ≡ groups ∷ [] → program.automaton.matcher ≡ matcher → program.utf8 ≡ utf8 →
+    ensures over_of_one { (program : Compiled W) (p : Pattern) (groups : Groups) (matcher : ℕ × W) (utf8 : Bool) (input : InputParts) (last : Option ℕ) →
+        AnswersAs W.word_chars program (p ∷ []) → program.automaton.groups ≡ groups ∷ [] → program.automaton.matcher ≡ matcher → program.utf8 ≡ utf8 →
         IsOver (search_in W.word_chars program input) last → IsOverOfOne (subject_in W.word_chars input.haystack matcher) p groups utf8 input last }
 {}

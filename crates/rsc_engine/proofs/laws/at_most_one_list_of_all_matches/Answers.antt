@@ -3,7 +3,7 @@ use Rattle.rsc_nfa.specs.declared.state.State.TheVariants.{Accept}
 use Rattle.rsc_search.specs.Matches.{Matched}
 use Rattle.rsc_engine.specs.Searches.{Search, search_in}
 use Rattle.rsc_engine.specs.Runs.{IsMatchOf}
-use Rattle.rsc_engine.specs.NextMatches.{MatchesLeft, AreAll, after}
+use Rattle.rsc_engine.specs.NextMatches.{MatchesLeft, AreAllMatches, after}
 use Rattle.rsc_engine.proofs.NextMatchesLemmas.{one_next, next_not_over}
 use Rattle.rsc_engine.proofs.laws.at_most_one_list_of_all_matches.Goals as goal
 
@@ -21,7 +21,7 @@ one_match e run other m n same x y =
     made : ℕ → ℕ → ℕ → Matched
     made p i j = record { pattern = p; span = record { start = i; end = j } }
 
-one_list : {W : Type 0} (chars : W → ℕ → Bool) (left : MatchesLeft W) (one other : List Matched) → AreAll chars left one → AreAll chars left other
+one_list : {W : Type 0} (chars : W → ℕ → Bool) (left : MatchesLeft W) (one other : List Matched) → AreAllMatches chars left one → AreAllMatches chars left other
     → one ≡ other
 one_list chars left [] [] x y = refl
 one_list chars left [] (n ∷ rest) x y =
@@ -34,7 +34,7 @@ one_list chars left (m ∷ rest) (n ∷ others) x y =
     let same : m ≡ n = one_match e x.0.1.run y.0.1.run m n runs x.0.1.is_of.ends y.0.1.is_of.ends in
     ap (λ (found : Matched). found ∷ rest) same
     ∙ ap (λ (all : List Matched). n ∷ all)
-    (one_list chars (after left n) rest others (subst (λ (found : Matched). AreAll chars (after left found) rest) same x.1) y.1)
+    (one_list chars (after left n) rest others (subst (λ (found : Matched). AreAllMatches chars (after left found) rest) same x.1) y.1)
 
 pub returns : goal.returns
 returns g c = one_list g.W.WordClass.word_chars

@@ -1,5 +1,5 @@
 use Rattle.std.proofs.Common.{◌≡◌, ◌-◌, ◌<◌, ◌≤◌, length}
-use Rattle.rsc_engine.specs.Lines.{BeginsLine, NoLine, HasMatchIn}
+use Rattle.rsc_engine.specs.Lines.{BeginsLine, NoSuchLine, HasMatchIn}
 use Rattle.rsc_engine.proofs.lines.first_line.Given as goal
 
 -- no line before this position has a match
@@ -8,7 +8,7 @@ invariant-loop-at g l = record {
   program : l.dfa ≡ l.fn.dfa;
   begins : l.at < length l.haystack → BeginsLine l.haystack l.at;
   low : l.from ≤ l.at;
-  passed : NoLine l.haystack (HasMatchIn g.W.WordClass.word_chars l.fn.dfa l.haystack) l.from l.at;
+  passed : NoSuchLine l.haystack (HasMatchIn g.W.WordClass.word_chars l.fn.dfa l.haystack) l.from l.at;
 }
 
 abbrev pub decreases-loop-at : goal.decreases-loop-at

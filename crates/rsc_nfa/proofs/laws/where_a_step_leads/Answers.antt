@@ -3,4 +3,4 @@ use Rattle.rsc_nfa.proofs.LawsLemmas.{step-from, step-position, step-to}
 use Rattle.rsc_nfa.proofs.laws.where_a_step_leads.Goals as goal
 
 pub returns : goal.returns
-returns c = record { from = step-from; position = step-position; names = faultless-names; to = step-to }
+returns c = record { from = step-from; position = step-position; within = faultless-names; to = step-to }

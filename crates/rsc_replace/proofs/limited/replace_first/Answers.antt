@@ -24,7 +24,7 @@ matches-init g c = record {
   haystack = rw (c.in_ok-matches.ensures.made, c.new.ensures) refl;
   end = rw (c.in_ok-matches.ensures.made, c.new.ensures) refl;
   from = rw (c.in_ok-matches.ensures.made, c.new.ensures) refl;
-  slots = rw c.in_ok-matches.ensures.made c.in_ok-captures.ensures.room;
+  slots = rw c.in_ok-matches.ensures.made c.in_ok-captures.ensures.slots;
   within = omega arith;
 }
 

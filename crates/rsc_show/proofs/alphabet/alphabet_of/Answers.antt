@@ -3,7 +3,7 @@ use Rattle.std.specs.FinSet as sets
 use Rattle.std.proofs.lemmas.List.{take_all, take_more}
 use Rattle.std.proofs.lemmas.List.Elements.{Contains-get_or}
 use Rattle.rsc_look.specs.declared.assertion.Look.TheVariants.{Start}
-use Rattle.rsc_look.specs.Boundaries.{boundaries_of}
+use Rattle.rsc_look.specs.Boundaries.{boundaries_of_look}
 use Rattle.rsc_look.specs.Keeping.{Keeps}
 use Rattle.rsc_show.specs.Chosen.{chosen_word_chars}
 use Rattle.std.proofs.lemmas.Bool.{or_cases, or_left}
@@ -17,8 +17,8 @@ loop-look-preserved c =
     let i = c.loop-look.look-index in
     let look = get_or looks i Start in
     let before = sets.contains c.loop-look.set in
-    let added = sets.contains (boundaries_of look t) in
-    let exact = c.add_to_byteset.ensures.exact (λ _. c.word_predicates_agree.ensures c.args.matcher.now.1) in (
+    let added = sets.contains (boundaries_of_look look t) in
+    let exact = c.add_to_byteset.ensures.boundaries (λ _. c.word_predicates_agree.ensures c.args.matcher.now.1) in (
       λ q h.
           rw (take_more looks i Start c.loop-look-test.true)
           (c.kept_lists_are_joined.ensures.both q (take i looks) (look ∷ []) t W

@@ -5,5 +5,5 @@ pub fill_by_representatives-requires-clause-alike : goal.fill_by_representatives
 fill_by_representatives-requires-clause-alike c = λ b d l m same.
     c.leads_of-leads.ensures b l
     ∙ ap (λ x. cond x 1 0)
-    (c.alike_bytes_share_their_ranges.ensures.some c.args.all.now c.args.part.now b d ((c.classes_of_ranges-map.ensures.alike b d l m).0 same) c.requires.among)
+    (c.alike_bytes_share_their_ranges.ensures.any c.args.all.now c.args.part.now b d ((c.classes_of_ranges-map.ensures.alike b d l m).0 same) c.requires.among)
     ∙ sym (c.leads_of-leads.ensures d m)

@@ -18,7 +18,7 @@ returns-clause-tokens g c =
     c.in_ok-program.ensures.matcher
     (lexed chars program patterns c.args.text.now 0 None c.in_ok-tokens.tokens.items
     (record {
-      built = c.in_ok-program.ensures.built;
+      built = c.in_ok-program.ensures.answers;
       first_end = λ input last captures found p f its loops.
           c.a_match_ends_at_its_first_end.ensures.next program patterns input last captures found p c.in_ok-program.ensures.first_ends f its loops;
       start = λ input last captures found anchored f.

@@ -1,6 +1,6 @@
 use Rattle.std.proofs.Common.{◌≡◌, ◌∙◌, ◌*◌, ◌++◌, [], ◌∷◌, length, refl, ap, subst, None}
 use Rattle.rsc_captures.specs.Captured.{Captured}
-use Rattle.rsc_captures.specs.Groups.{all_groups}
+use Rattle.rsc_captures.specs.Groups.{all_group_count}
 use Rattle.rsc_engine.specs.Parts.{pattern_of, patterns_of}
 use Rattle.rsc_engine.specs.NextMatches.{after}
 use Rattle.rsc_uses.specs.Lexed.{AreLexedWith}
@@ -16,8 +16,8 @@ matches-init g c =
       first = rw c.new-all.ensures.items
           (first_none (IsNextWith g.W.WordClass.word_chars c.args.group) (λ left both. after left both.0) c.in_ok-matches.matches);
       program = refl;
-      groups = rw program (c.in_ok-captures.ensures.room.0);
-      slots = rw program (c.in_ok-captures.ensures.room.1);
+      groups = rw program (c.in_ok-captures.ensures.slots.0);
+      slots = rw program (c.in_ok-captures.ensures.slots.1);
     }
 
 pub matches-preserved : goal.matches-preserved
@@ -62,7 +62,7 @@ returns-in-None-clause-tokens g c =
     c.in_ok-program.ensures.matcher
     (lexed_with chars program patterns c.args.text.now c.args.group 0 None all c.matches.matches
     (record {
-      built = c.in_ok-program.ensures.built;
+      built = c.in_ok-program.ensures.answers;
       first_end = λ input last captures found p f its loops.
           c.a_match_ends_at_its_first_end.ensures.next program patterns input last captures found p c.in_ok-program.ensures.first_ends f its loops;
       start = λ input last captures found anchored f.

@@ -1,5 +1,5 @@
 use Rattle.std.proofs.Common.{◌≡◌, ◌*◌, length}
-use Rattle.rsc_captures.specs.Groups.{all_groups}
+use Rattle.rsc_captures.specs.Groups.{all_group_count}
 use Rattle.rsc_engine.specs.NextMatches.{after, calls_left}
 use Rattle.rsc_uses.proofs.EngineLemmas.{AreFirst}
 use Rattle.rsc_uses.proofs.LexedLemmas.{IsNextWith}
@@ -11,7 +11,7 @@ invariant-matches g l = record {
   first : AreFirst (IsNextWith g.W.WordClass.word_chars l.fn.group) (λ left both. after left both.0) l.initial.matches l.all.items l.matches;
   program : l.matches.program ≡ l.initial.matches.program;
   groups : l.captures.groups ≡ l.matches.program.automaton.groups;
-  slots : length l.captures.offsets ≡ 2 * all_groups l.matches.program.automaton.groups;
+  slots : length l.captures.offsets ≡ 2 * all_group_count l.matches.program.automaton.groups;
 }
 
 abbrev pub decreases-matches : goal.decreases-matches

@@ -6,13 +6,13 @@ use Rattle.std.proofs.Math.Bool.{or-true}
 use Rattle.std.proofs.lemmas.List.{take_all, take_more}
 use Rattle.std.proofs.lemmas.List.Elements.{Contains-get_or}
 use Rattle.rsc_look.specs.declared.assertion.Look.TheVariants.{Start}
-use Rattle.rsc_look.specs.Boundaries.{boundaries_of}
+use Rattle.rsc_look.specs.Boundaries.{boundaries_of_look}
 use Rattle.rsc_look.specs.Keeping.{Keeps}
 use Rattle.rsc_uses.proofs.look.alphabet_of.Goals as goal
 
 pub loop-look-init : goal.loop-look-init
 loop-look-init g c = record {
-  keeps = λ q h. c.kept_lists_are_joined.ensures.none q c.args.matcher.now.0 (g.W.WordClass.word_chars c.args.matcher.now.1);
+  keeps = λ q h. c.kept_lists_are_joined.ensures.empty q c.args.matcher.now.0 (g.W.WordClass.word_chars c.args.matcher.now.1);
   stops = λ any. rw (c.add_set.ensures.members 127, c.quit_bytes.ensures 127 (omega arith), c.quit_bytes.ensures 128 (omega arith), any) (or-true _);
 }
 
@@ -24,8 +24,8 @@ loop-look-preserved g c = record {
       let looks = c.args.looks.now in
       let i = c.loop-look.look-index in
       let look = get_or looks i Start in
-      let added = boundaries_of look t in
-      let exact = c.add_to_byteset.ensures.exact (c.requires.words look (Contains-get_or looks i Start c.loop-look-test.true)) in
+      let added = boundaries_of_look look t in
+      let exact = c.add_to_byteset.ensures.boundaries (c.requires.words look (Contains-get_or looks i Start c.loop-look-test.true)) in
       rw (take_more looks i Start c.loop-look-test.true)
       (c.kept_lists_are_joined.ensures.both q (take i looks) (look ∷ []) t W
       (c.loop-look.invariant.keeps q

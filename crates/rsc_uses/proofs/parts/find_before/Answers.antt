@@ -3,7 +3,7 @@ use Rattle.rsc_search.specs.Inputs.{whole}
 use Rattle.rsc_captures.specs.Captured.{Captured}
 use Rattle.rsc_engine.specs.Patterns.{Then, Group}
 use Rattle.rsc_engine.specs.Parts.{pattern_of, groups_of_part}
-use Rattle.rsc_engine.specs.GroupNumbers.{numbered, count_groups}
+use Rattle.rsc_engine.specs.GroupNumbers.{numbered, group_count_in}
 use Rattle.rsc_engine.specs.Patterns.{subject_of}
 use Rattle.rsc_engine.specs.Searches.{search_in}
 use Rattle.rsc_captures.specs.Groups.{slot_number}
@@ -51,7 +51,7 @@ returns-in-None-get_group-clause-none g c =
     let lists = rw (c.new-builder.ensures.groups, c.in_ok-both.ensures.groups, c.in_ok-group.ensures.groups) at c.in_ok-program.ensures.groups in
     let first = rw (c.in-Some.is, c.new-input.ensures) at c.in_ok-find.ensures.found in
     let is_in = c.a_first_match_is_of_a_pattern.ensures.some program (both ∷ []) (whole c.args.haystack.now) _ found matches first in
-    let w = c.captures_are_of_the_first_way.ensures.first_of_any program (both ∷ []) (whole c.args.haystack.now) c.find.new.captures found both ways first
+    let w = c.captures_are_of_a_way.ensures.first program (both ∷ []) (whole c.args.haystack.now) c.find.new.captures found both ways first
     (its_of both e found is_in) in
     let slot_of = slot_number program.automaton.groups found.pattern in
     let room = group_there program.automaton.groups (groups_of_part c.args.part ++ groups_of_part c.args.after) c.in_ok-captures.captures c.find.new.captures
@@ -60,6 +60,6 @@ returns-in-None-get_group-clause-none g c =
     c.find.ensures.kept_groups ∙ ap (λ (k : Captured). k.groups) c.in_ok-captures.ensures.made in
     let span = c.a_group_spans_what_its_way_records.ensures program.automaton.groups c.find.new.captures found w.0 1 same
     (record { pattern = first.is_of.pattern; slots = w.2 }) room.0 room.1 in
-    absurd (span_set (subject_of e) (2 * found.pattern) (slot_of 1) (numbered slot_of 2 p) (numbered slot_of (1 + count_groups (Group 0 p)) q)
+    absurd (span_set (subject_of e) (2 * found.pattern) (slot_of 1) (numbered slot_of 2 p) (numbered slot_of (1 + group_count_in (Group 0 p)) q)
     (found.span.start, []) (found.span.end, w.0) (λ r slot k l i. c.what_was_recorded_stays.ensures (subject_of e) r slot k l i) w.1
     (no_span c.find.new.captures 1 (slot_of 1) w.0 c.get_group.result c.get_group.ensures.value c.in-None-get_group.is span))

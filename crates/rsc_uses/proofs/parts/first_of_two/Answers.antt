@@ -13,7 +13,7 @@ returns-clause-other g c = λ second j within goes.
     let found = rw (c.in-Some.is, c.new-input.ensures) at c.in_ok-find.ensures.found in
     let least : c.in-Some.found.pattern ≤ 0 =
     c.a_match_is_of_the_least_pattern.ensures.first program (p ∷ (pattern_of c.args.other ∷ [])) (whole c.args.haystack.now) _ c.in-Some.found
-    (record { pattern = 0; span = record { start = c.in-Some.found.span.start; end = j } }) matches c.in_ok-program.ensures.prefers found
+    (record { pattern = 0; span = record { start = c.in-Some.found.span.start; end = j } }) matches c.in_ok-program.ensures.prefers_lesser found
     (match_of chars program c.args.word_class p (pattern_of c.args.other ∷ []) c.args.haystack.now c.in-Some.found.span.start j
     c.in_ok-program.ensures.matcher within goes) refl in
     absurd (omega (arith, least, second))

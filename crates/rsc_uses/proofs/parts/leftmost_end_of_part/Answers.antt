@@ -16,8 +16,8 @@ returns-clause-first g c =
     let matches = rw c.new.ensures.patterns at c.in_ok-program.ensures.matches in
     let firsts = rw c.new.ensures.patterns at c.in_ok-program.ensures.first_ends in
     let ends = rw (c.in-Some.is, c.new-input.ensures, c.new-dfa.ensures) at c.in_ok-leftmost_end.ensures.found in
-    let one = c.a_leftmost_end_is_of_the_first_match.ensures program (p ∷ []) (whole c.args.haystack.now) c.in-Some.end matches
-    c.in_ok-program.ensures.prefers firsts ends in (
+    let one = c.a_leftmost_end_is_of_the_least_pattern.ensures program (p ∷ []) (whole c.args.haystack.now) c.in-Some.end matches
+    c.in_ok-program.ensures.prefers_lesser firsts ends in (
       one.0.span.start,
       goes_to (text_of c.args.haystack.now (chars c.args.word_class)) p one.0.span.start one.0.span.end c.in-Some.end one.2
           (goes_of chars program c.args.word_class p c.args.haystack.now one.0 matcher one.1),
@@ -40,8 +40,8 @@ returns-clause-within g c =
     let matches = rw c.new.ensures.patterns at c.in_ok-program.ensures.matches in
     let firsts = rw c.new.ensures.patterns at c.in_ok-program.ensures.first_ends in
     let ends = rw (c.in-Some.is, c.new-input.ensures, c.new-dfa.ensures) at c.in_ok-leftmost_end.ensures.found in
-    let one = c.a_leftmost_end_is_of_the_first_match.ensures c.in_ok-program.program (p ∷ []) (whole c.args.haystack.now) c.in-Some.end matches
-    c.in_ok-program.ensures.prefers firsts ends in
+    let one = c.a_leftmost_end_is_of_the_least_pattern.ensures c.in_ok-program.program (p ∷ []) (whole c.args.haystack.now) c.in-Some.end matches
+    c.in_ok-program.ensures.prefers_lesser firsts ends in
     omega (arith, one.1.end, one.2)
 
 pub returns-in-None-clause-none : goal.returns-in-None-clause-none

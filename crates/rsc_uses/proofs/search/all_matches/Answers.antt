@@ -1,6 +1,6 @@
 use Rattle.std.proofs.Common.{ℕ, ◌++◌, [], ◌∷◌, inl, inr, rules, subst}
 use Rattle.rsc_search.specs.Inputs.{whole}
-use Rattle.rsc_engine.specs.NextMatches.{from_start}
+use Rattle.rsc_engine.specs.NextMatches.{with_start}
 use Rattle.rsc_uses.proofs.FoundLemmas.{AreFirstFound, found_more, found_all, goes_past, goes_on_at}
 use Rattle.rsc_uses.proofs.search.all_matches.Goals as goal
 use Rattle.rsc_uses.proofs.search.all_matches.Goals.{else-loop-input-test, then-loop-input-test+in_default}
@@ -25,7 +25,7 @@ loop-input-preserved g c =
       end = search rules;
       order = search rules;
       first = rw (c.set_start-else-is_empty.ensures, c.in_ok-push.ensures.items)
-          (subst (λ (k : ℕ). AreFirstFound finds (whole c.args.haystack.now) (found ++ c.in-Some.span ∷ []) (from_start c.loop-input.input k))
+          (subst (λ (k : ℕ). AreFirstFound finds (whole c.args.haystack.now) (found ++ c.in-Some.span ∷ []) (with_start c.loop-input.input k))
           (goes_on_at c.in-Some.span (search rules)) more);
       spans = search rules;
     }

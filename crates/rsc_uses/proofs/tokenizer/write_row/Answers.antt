@@ -32,6 +32,6 @@ loop-byte-preserved c =
             get_or-set_other entries entry _ lead 0 (λ e. differs (omega (arith, e, here))) ∙ so_far.row b (omega (arith, l, before))
       ];
       others = λ other b apart l.
-          get_or-set_other entries entry _ lead 0 (λ e. apart (law.apart _ other _ c.args.row _ (column b l) small (e ∙ here)).0)
+          get_or-set_other entries entry _ lead 0 (λ e. apart (law.distinct _ other _ c.args.row _ (column b l) small (e ∙ here)).0)
           ∙ so_far.others other b apart l;
     }

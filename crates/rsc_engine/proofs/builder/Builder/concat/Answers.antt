@@ -1,6 +1,6 @@
 use Rattle.std.proofs.Common.{◌≡◌, ◌∙◌, sym, ap, arith, map, take, take_all, List, refl, ◌+◌, ◌++◌, ◌∷◌, []}
-use Rattle.rsc_engine.specs.Patterns.{Pattern, in_order, may_be_empty}
-use Rattle.rsc_engine.specs.GroupNumbers.{count_groups}
+use Rattle.rsc_engine.specs.Patterns.{Pattern, sequence, may_be_empty}
+use Rattle.rsc_engine.specs.GroupNumbers.{group_count_in}
 use Rattle.rsc_engine.specs.FirstEnds.{loops_take_bytes}
 use Rattle.rsc_engine.specs.Parts.{pattern_of}
 use Rattle.rsc_engine.specs.Trees.{pattern_in}
@@ -29,12 +29,12 @@ pub invariant_of-result : goal.invariant_of-result
 invariant_of-result c =
     let all : take c.loop-part.part-index c.deref-part-items.result.now ≡ c.args.parts.items =
     take_all _ _ (omega (arith, c.loop-part-test.false)) ∙ c.deref-part-items.ensures.value in
-    let same : in_order (map pattern_of (take c.loop-part.part-index c.deref-part-items.result.now)) ≡ pattern_in (variants.Concat c.in_ok-trees.trees) =
-    ap (λ parts. in_order (map pattern_of parts)) all ∙ (ap in_order (sym c.in_ok-trees.ensures.trees) ∙ sym (pattern-concat c.in_ok-trees.trees)) in
+    let same : sequence (map pattern_of (take c.loop-part.part-index c.deref-part-items.result.now)) ≡ pattern_in (variants.Concat c.in_ok-trees.trees) =
+    ap (λ parts. sequence (map pattern_of parts)) all ∙ (ap sequence (sym c.in_ok-trees.ensures.trees) ∙ sym (pattern-concat c.in_ok-trees.trees)) in
     record {
       groups = c.in_ok-trees.ensures.count
-          ∙ (ap (λ (ps : List Pattern). count_groups (in_order ps)) (sym c.in_ok-trees.ensures.trees)
-          ∙ ap count_groups (sym (pattern-concat c.in_ok-trees.trees)));
+          ∙ (ap (λ (ps : List Pattern). group_count_in (sequence ps)) (sym c.in_ok-trees.ensures.trees)
+          ∙ ap group_count_in (sym (pattern-concat c.in_ok-trees.trees)));
       emptiness = c.loop-part.invariant.0 ∙ ap may_be_empty same;
       loops = c.loop-part.invariant.1 ∙ ap loops_take_bytes same;
     }

@@ -1,6 +1,6 @@
 use Rattle.std.proofs.Common.{◌≡◌, ◌∙◌, sym, ap, arith, map, take, take_all, List, refl, ◌+◌, ◌++◌, ◌∷◌, []}
 use Rattle.rsc_engine.specs.Patterns.{Pattern, one_of, may_be_empty}
-use Rattle.rsc_engine.specs.GroupNumbers.{count_groups}
+use Rattle.rsc_engine.specs.GroupNumbers.{group_count_in}
 use Rattle.rsc_engine.specs.FirstEnds.{loops_take_bytes}
 use Rattle.rsc_engine.specs.Parts.{pattern_of}
 use Rattle.rsc_engine.specs.Trees.{pattern_in}
@@ -34,8 +34,8 @@ invariant_of-result c =
     record {
       groups = c.in_ok-trees.ensures.count
           ∙ (sym (one_of_groups (map pattern_of c.args.parts.items))
-          ∙ (ap (λ (ps : List Pattern). count_groups (one_of ps)) (sym c.in_ok-trees.ensures.trees)
-          ∙ ap count_groups (sym (pattern-one_of c.in_ok-trees.trees))));
+          ∙ (ap (λ (ps : List Pattern). group_count_in (one_of ps)) (sym c.in_ok-trees.ensures.trees)
+          ∙ ap group_count_in (sym (pattern-one_of c.in_ok-trees.trees))));
       emptiness = c.loop-part.invariant.0 ∙ ap may_be_empty same;
       loops = c.loop-part.invariant.1 ∙ ap loops_take_bytes same;
     }

@@ -1,6 +1,6 @@
 use Rattle.std.proofs.Common.{◌≡◌, ◌∙◌, ◌||◌, ◌&&◌, not, nat_eq, is_some, ap, sym, Bool}
 use Rattle.rsc_engine.specs.Patterns.{Repeat, may_be_empty}
-use Rattle.rsc_engine.specs.GroupNumbers.{count_groups}
+use Rattle.rsc_engine.specs.GroupNumbers.{group_count_in}
 use Rattle.rsc_engine.specs.FirstEnds.{loops_take_bytes}
 use Rattle.rsc_engine.specs.Trees.{pattern_in}
 use Rattle.rsc_engine.specs.declared.builder.tree.Tree.{Tree}
@@ -20,7 +20,7 @@ invariant_of-result c =
     ∙ ap (λ (t : Tree). Repeat c.args.min c.args.max c.args.is_greedy (pattern_in t)) (c.in_ok-new.ensures.ok ∙ c.into_tree_and_names-tree.ensures.tree) in
     record {
       groups = c.into_tree_and_names-tree.ensures.groups
-          ∙ (ap (λ (t : Tree). count_groups (pattern_in t)) c.into_tree_and_names-tree.ensures.tree ∙ ap count_groups (sym same));
+          ∙ (ap (λ (t : Tree). group_count_in (pattern_in t)) c.into_tree_and_names-tree.ensures.tree ∙ ap group_count_in (sym same));
       emptiness = ap (λ (b : Bool). nat_eq c.args.min 0 || b) c.args.part.emptiness
           ∙ (sym (repeat_empty c.args.min c.args.max c.args.is_greedy p) ∙ ap may_be_empty (sym same));
       loops = ap (λ (b : Bool). c.args.part.loops_take_bytes && (b || not c.args.part.may_be_empty)) c.is_some.ensures

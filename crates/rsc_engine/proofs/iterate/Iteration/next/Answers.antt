@@ -2,7 +2,7 @@ use Rattle.std.proofs.Common.{◌≡◌, ◌+◌, ◌≤◌, ◌∙◌, sym, ap,
 use Rattle.rsc_search.specs.Inputs.{InputParts}
 use Rattle.rsc_engine.specs.Searches.{search_in}
 use Rattle.rsc_engine.specs.Preferred.{IsFirstMatch}
-use Rattle.rsc_engine.specs.NextMatches.{from_start}
+use Rattle.rsc_engine.specs.NextMatches.{with_start}
 use Rattle.rsc_engine.proofs.AheadLayoutLemmas.{rest-later}
 use Rattle.rsc_engine.proofs.NextMatchesLemmas.{of_states, turn_none, turn_next, turn_repeat, turn_split}
 use Rattle.rsc_engine.proofs.PassTableLayoutLemmas.{some_same}
@@ -47,7 +47,7 @@ matches-preserved-then-repeats g c =
           c.advance.new.self.input c.advance.new.self.program.now c.advance.new.self.last_end
           (rw c.in-Ok-Some.field-0-is at e.advanced) (ap (λ x. x.now) e.program) e.last
           c.set_start-then-repeats.new.self (c.repeats.ensures.yes c.if-repeats.true)
-          (c.set_start-then-repeats.ensures ∙ ap (λ n. from_start c.advance.new.self.input n) next);
+          (c.set_start-then-repeats.ensures ∙ ap (λ n. with_start c.advance.new.self.input n) next);
       program = e.program ∙ c.matches.invariant.program;
       groups = e.kept_groups ∙ c.matches.invariant.groups;
       slots = e.kept_slots ∙ c.matches.invariant.slots;
@@ -58,7 +58,7 @@ matches-preserved g c =
     let e = c.in-Ok-Some.ensures in
     let x : IsFirstMatch (search_in g.W.WordClass.word_chars c.matches.self.program.now c.matches.self.input) c.advance.new.captures c.in-Ok-Some.found =
     rw c.in-Ok-Some.field-0-is at e.found in
-    let on : c.advance.new.self.input ≡ from_start c.matches.self.input c.in-Ok-Some.found.span.end = rw c.in-Ok-Some.field-0-is at e.advanced in
+    let on : c.advance.new.self.input ≡ with_start c.matches.self.input c.in-Ok-Some.found.span.end = rw c.in-Ok-Some.field-0-is at e.advanced in
     record {
       turn = turn_split g.W.WordClass.word_chars c.args.self.now.program.now c.matches.self.program.now c.args.self.now.input c.matches.self.input
           c.args.self.now.last_end c.matches.self.last_end c.matches.invariant.turn
@@ -78,7 +78,7 @@ pub invariant_of-self-then-splits : goal.invariant_of-self-then-splits
 invariant_of-self-then-splits g c =
     let e = search_in g.W.WordClass.word_chars c.advance.new.self.program.now c.advance.new.self.input in
     let next = c.after_split-next.result in
-    let on : c.advance.new.self.input ≡ from_start c.matches.self.input c.in-Ok-Some.found.span.end =
+    let on : c.advance.new.self.input ≡ with_start c.matches.self.input c.in-Ok-Some.found.span.end =
     rw c.in-Ok-Some.field-0-is at c.in-Ok-Some.ensures.advanced in
     let at : c.advance.new.self.input.span.start ≡ c.in-Ok-Some.found.span.end = ap (λ (x : InputParts). x.span.start) on in
     let up : c.advance.new.self.input.span.start ≤ next = omega (arith, at, c.end-end-in-Ok-Some.ensures.value, c.after_split-next.ensures.on) in
@@ -93,7 +93,7 @@ pub invariant_of-self-then-repeats : goal.invariant_of-self-then-repeats
 invariant_of-self-then-repeats g c =
     let e = search_in g.W.WordClass.word_chars c.advance.new.self.program.now c.advance.new.self.input in
     let next = c.end-end-in-Ok-Some.result + 1 in
-    let on : c.advance.new.self.input ≡ from_start c.matches.self.input c.in-Ok-Some.found.span.end =
+    let on : c.advance.new.self.input ≡ with_start c.matches.self.input c.in-Ok-Some.found.span.end =
     rw c.in-Ok-Some.field-0-is at c.in-Ok-Some.ensures.advanced in
     let at : c.advance.new.self.input.span.start ≡ c.in-Ok-Some.found.span.end = ap (λ (x : InputParts). x.span.start) on in
     let up : c.advance.new.self.input.span.start ≤ next = omega (arith, at, c.end-end-in-Ok-Some.ensures.value) in
@@ -106,7 +106,7 @@ invariant_of-self-then-repeats g c =
 
 pub invariant_of-self-else-splits : goal.invariant_of-self-else-splits
 invariant_of-self-else-splits g c =
-    let on : c.advance.new.self.input ≡ from_start c.matches.self.input c.in-Ok-Some.found.span.end =
+    let on : c.advance.new.self.input ≡ with_start c.matches.self.input c.in-Ok-Some.found.span.end =
     rw c.in-Ok-Some.field-0-is at c.in-Ok-Some.ensures.advanced in
     let at : c.advance.new.self.input.span.start ≡ c.in-Ok-Some.found.span.end = ap (λ (x : InputParts). x.span.start) on in
     record {

@@ -16,10 +16,10 @@ pub returns-clause-over : goal.returns-clause-over
 returns-clause-over g c = λ program p matcher input last built is over takes.
     rw (← is) (over-of-one g.W.WordClass.word_chars program p input built last over takes)
 
-pub returns-clause-taken : goal.returns-clause-taken
-returns-clause-taken g c = λ program p groups matcher utf8 input last captures found built lists is text f.
+pub returns-clause-next_of_one : goal.returns-clause-next_of_one
+returns-clause-next_of_one g c = λ program p groups matcher utf8 input last captures found built lists is text f.
     rw (← is) (taken-of-one g.W.WordClass.word_chars program p input built groups utf8 last captures found lists text f)
 
-pub returns-clause-left_out : goal.returns-clause-left_out
-returns-clause-left_out g c = λ program p groups matcher utf8 input last built lists is text over.
+pub returns-clause-over_of_one : goal.returns-clause-over_of_one
+returns-clause-over_of_one g c = λ program p groups matcher utf8 input last built lists is text over.
     rw (← is) (passed-of-one g.W.WordClass.word_chars program p input built groups utf8 last lists text over)

@@ -23,7 +23,7 @@ returns-then-more-block g c =
     rw (← c.self.view_is) (record {
       value = with_one_more s.capacity s.blocks.items c.self.invariant.spare_clear _ _
           (same_at c.self.invariant _ _ (below g with) c.as_usize-p.ensures.value c.index-block.ensures c.with_bit-more.ensures.bits is);
-      new = ap not (sym (has_member-set s.capacity s.blocks.items c.self.invariant.spare_clear c.args.pid ∙ is));
+      added = ap not (sym (has_member-set s.capacity s.blocks.items c.self.invariant.spare_clear c.args.pid ∙ is));
       count = refl;
       within = members_within s.capacity s.blocks.items;
     })
@@ -45,7 +45,7 @@ returns g c =
     let at = more_at c.self.invariant _ _ (below g with) c.as_usize-p.ensures.value c.index-block.ensures c.with_bit-more.ensures.bits in
     rw (← c.self.view_is) (record {
       value = with_one_more s.capacity s.blocks.items c.self.invariant.spare_clear _ _ at;
-      new = ap not (sym (has_member-set s.capacity s.blocks.items c.self.invariant.spare_clear c.args.pid ∙ out));
+      added = ap not (sym (has_member-set s.capacity s.blocks.items c.self.invariant.spare_clear c.args.pid ∙ out));
       count = one_more_member s.capacity s.blocks.items c.self.invariant.spare_clear _ _ at (below g with) out;
       within = members_within s.capacity _;
     })

@@ -10,7 +10,7 @@ use Rattle.rsc_engine.proofs.LoopsLemmas.{BuildsCopies-none, BuildsCopies-more, 
 use denote.Param.Weighed.{at_most}
 use Rattle.rsc_engine.proofs.builder.tree.Tree.TheLaws.{the_size}
 use Rattle.std.proofs.lemmas.Grind.{common_steps}
-use Rattle.rsc_engine.proofs.SizesLemmas.{in_order-room, in_order-left, one_of-last, one_of-room, copies-room, up_to-room, limited-size, unlimited-size}
+use Rattle.rsc_engine.proofs.SizesLemmas.{sequence-room, sequence-left, one_of-last, one_of-room, copies-room, up_to-room, limited-size, unlimited-size}
 use Rattle.rsc_engine.proofs.PartsLemmas.{one_of_groups}
 use Rattle.rsc_engine.specs.Sizes.{size_of}
 use Rattle.rsc_engine.specs.LinksLayout.{up_to, slots_between}
@@ -170,8 +170,8 @@ concat-part-requires t c = (
       first_of (omega (arith, deep, same, c.decreases), grind (arith, deep, same, c.decreases)),
   let back : suc (c.loop-index.index - 1) ≡ c.loop-index.index = omega (arith, c.loop-index-test.true) in
       let there : c.loop-index.index - 1 < length c.args.parts.now = omega (arith, c.loop-index-test.true, c.loop-index.auto.index) in
-      let room = rw back at (in_order-room pattern_in c.args.parts.now (c.loop-index.index - 1) c.index-parts-index.result there c.index-parts-index.is) in
-      let left = rw back at (in_order-left pattern_in c.args.parts.now (c.loop-index.index - 1) c.index-parts-index.result there c.index-parts-index.is) in (
+      let room = rw back at (sequence-room pattern_in c.args.parts.now (c.loop-index.index - 1) c.index-parts-index.result there c.index-parts-index.is) in
+      let left = rw back at (sequence-left pattern_in c.args.parts.now (c.loop-index.index - 1) c.index-parts-index.result there c.index-parts-index.is) in (
         omega (arith, c.requires.room, c.loop-index.invariant.2, room),
         (omega (arith, c.requires.unnumbered, c.loop-index.invariant.0, left), omega (arith, c.requires.groups, c.loop-index.invariant.0)),
       ),
@@ -185,7 +185,7 @@ one_of-part-requires t c = (
       first_of (omega (arith, deep, same, c.decreases), grind (arith, deep, same, c.decreases)),
   let there : length c.args.parts.now - 1 < length c.args.parts.now = search rules in
       let room = one_of-last pattern_in c.args.parts.now (length c.args.parts.now - 1) c.index-parts-last.result there c.index-parts-last.is in
-      let left = in_order-left pattern_in c.args.parts.now (length c.args.parts.now - 1) c.index-parts-last.result there c.index-parts-last.is in (
+      let left = sequence-left pattern_in c.args.parts.now (length c.args.parts.now - 1) c.index-parts-last.result there c.index-parts-last.is in (
         omega (arith, c.requires.room, room),
         (omega (arith, c.requires.unnumbered, left, one_of_groups (map pattern_in c.args.parts.now)), c.requires.groups),
       ),
@@ -201,7 +201,7 @@ one_of-part-requires-in-loop-index t c = (
       let some : 0 < length c.args.parts.now = search rules in
       let there : suc (c.loop-index.index - 1) < length c.args.parts.now = omega (arith, some, c.loop-index-test.true, c.loop-index.auto.index) in
       let room = rw back at (one_of-room pattern_in c.args.parts.now (c.loop-index.index - 1) c.index-parts-index.result there c.index-parts-index.is) in
-      let left = rw back at (in_order-left pattern_in c.args.parts.now (c.loop-index.index - 1) c.index-parts-index.result (omega (arith, there))
+      let left = rw back at (sequence-left pattern_in c.args.parts.now (c.loop-index.index - 1) c.index-parts-index.result (omega (arith, there))
       c.index-parts-index.is) in (
         omega (arith, c.requires.room, c.loop-index.invariant.2, room),
         (

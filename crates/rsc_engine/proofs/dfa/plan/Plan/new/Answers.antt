@@ -1,5 +1,5 @@
 use Rattle.std.proofs.Common.{◌≡◌, ◌<◌, ◌∙◌, length, subst, arith, ℕ}
-use Rattle.rsc_nfa.specs.Classes.{has_unicode}
+use Rattle.rsc_nfa.specs.Classes.{has_unicode_assertion}
 use Rattle.rsc_nfa.specs.StateFaults.{AreFaultless}
 use Rattle.rsc_look.specs.Keeping.{AgreesWithAscii}
 use Rattle.rsc_engine.proofs.LawfulLayoutLemmas.{parted}
@@ -9,7 +9,7 @@ pub returns-clause-plan : goal.returns-clause-plan
 returns-clause-plan g c =
     let p = c.args.program.now in
     let agreed : AgreesWithAscii (g.W.WordClass.word_chars p.automaton.matcher.1) = c.agrees_with_ascii.ensures p.automaton.matcher.1 in
-    let looks : c.contains_word_unicode-unicode.result ≡ has_unicode p.automaton.states =
+    let looks : c.contains_word_unicode-unicode.result ≡ has_unicode_assertion p.automaton.states =
     rw c.nfa-nfa.ensures at (c.contains_word_unicode-unicode.ensures ∙ c.looks.ensures.unicode) in
     let faultless : AreFaultless p.automaton.groups p.automaton.states = rw c.nfa-nfa.ensures at c.states-states.ensures.faultless in
     record {

@@ -1,6 +1,6 @@
 use Rattle.rsc_engine.specs.Searches.{search_in}
 use Rattle.rsc_engine.proofs.LawsLemmas.{none_between, none_after_all}
-use Rattle.rsc_engine.proofs.laws.no_match_is_left_out.Goals as goal
+use Rattle.rsc_engine.proofs.laws.only_overlapping_matches_are_left_out.Goals as goal
 
 pub returns-clause-next : goal.returns-clause-next
 returns-clause-next g c = λ program patterns input last captures found other r none unanchored f l m.
