@@ -61,7 +61,7 @@ def definitions_of(crate):
 
 
 def names_of_specs(crate, cited):
-    """Returns the definitions of specs/, each with the comment above it, or how it is defined: those that are cited, those of which they are made, and lemmas with
+    """Returns the definitions of specs/, each with the comment above it, or how it is defined: the cited ones, what these are made of, and lemmas with
     what serves them. Private ones are left out."""
     tables = {
         "Contracts cite these, or fields of these. From 0.1.0 on they stay, with the fields of their records and the constructors of their data types:": [],

@@ -18,7 +18,7 @@ Each is compiled and run without a proof, in a copy of the repository. It passes
 trait, or as it says. The compiler takes 20 seconds for the toolchain's library alone, so a crate's edits are compiled together: edit 3 of a part of those of
 `rsc_search` as a crate `rsc_search_3`, with its tests in a module `v3`, and edits of a program as modules of one program, which writes to standard output
 what they write to standard error. For each edit a stored run takes a quarter of a second, and more in a larger program, so an edit of a program with
-many runs names the one that refuses it. Those that give their tests less time are compiled together too, eight at once. The edits with a snippet or with
+many runs names the one that refuses it. Edits that give their tests less time are compiled together too, eight at once. The edits with a snippet or with
 refused memory are tried alone: the first took longer together, and in a joined program other requests for memory would come before the one that is refused.
 """
 import os
